@@ -1,0 +1,38 @@
+-- Cases 1 to 12 of document 01 are what the definitions give: reading, rounds, counts and layout, from the ticket's text to the text written.
+-- Both sides are computed, so the line below names every definition on the way. Assumes nothing.
+use mathlib.Core.List.{List, map}
+use mathlib.Core.Path.{_≡_, refl}
+use Prim.Native.Nat.{ℕ}
+use lib.Count.{onesIn}
+use Rattle.general.specs.Bits.{member, ones64}
+use Rattle.general.specs.BigEndian.{number, numberFrom, bytesOf}
+use Rattle.general.specs.Indexed.{mapFrom}
+use Rattle.general.specs.Text.{ascii}
+use Rattle.protocol.specs.Instance.{pointFrom, faultOf, withinLimits}
+use Rattle.protocol.specs.Message.{arriving}
+use Rattle.protocol.specs.Transition.{sends, receives}
+use Rattle.protocol.specs.Delivery.{reachAt, reachIn, reach}
+use Rattle.protocol.specs.Round.{stateOf, crashesIn, sentBy, received, afterOutcome, after, statesAfter}
+use Rattle.protocol.specs.Count.{isUndecided, anyUndecided, dataAt, commitsAt, countIn, speaks, dataIn, commitsIn, isIdle, countsAsCrash, crashCount}
+use Rattle.protocol.specs.Run.{initial, withRound, runTo, runOf, crashesOf}
+use Rattle.lines.specs.Digit.{digitValue, isDigit}
+use Rattle.lines.specs.Line.{scan, closed, unclosed, linesFrom, linesOf}
+use Rattle.ticket.specs.Reading.{proceed, readFrom}
+use Rattle.ticket.specs.Accept.{isKind, acceptHeader, afterProposal, acceptProposal, failureLine, placesCrash, allBetween, suitsStep, withCrash, acceptCrash, acceptFailure, accept}
+use Rattle.ticket.specs.Ticket.{atEnd, readTicket}
+use Rattle.result.specs.HexText.{digitOf, hexLine}
+use Rattle.result.specs.ResultLine.{endBytes, processLine, lastLine, joined, resultText, resultSize, refusalLine}
+use Rattle.result.specs.Running.{resultIn, running, bufferAfter, written}
+use Rattle.cases.specs.Table.{Case, textOf, case1, case2, case3, case4, case5, case6, case7, case8, case9, case10, case10Passes, case11, case12, cases}
+
+-- What the program writes for the case's ticket, with room for every result.
+unfoldable pub writes : Case → List ℕ
+writes c = written (running (textOf (c .ticket)) (resultSize 64))
+
+-- What the case says that it writes.
+unfoldable pub says : Case → List ℕ
+says c = textOf (c .output)
+
+pub marked-cases : map writes cases ≡ map says cases
+unfolding writes says cases textOf ascii case1 case2 case3 case4 case5 case6 case7 case8 case9 case10 case10Passes case11 case12 onesIn member ones64 number numberFrom bytesOf mapFrom pointFrom faultOf withinLimits arriving sends receives reachAt reachIn reach stateOf crashesIn sentBy received afterOutcome after statesAfter isUndecided anyUndecided dataAt commitsAt countIn speaks dataIn commitsIn isIdle countsAsCrash crashCount initial withRound runTo runOf crashesOf digitValue isDigit scan closed unclosed linesFrom linesOf proceed readFrom isKind acceptHeader afterProposal acceptProposal failureLine placesCrash allBetween suitsStep withCrash acceptCrash acceptFailure accept atEnd readTicket digitOf hexLine endBytes processLine lastLine joined resultText resultSize refusalLine resultIn running written
+marked-cases = refl

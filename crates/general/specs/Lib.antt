@@ -1,0 +1,4 @@
+pub mod Bits
+pub mod BigEndian
+pub mod Indexed
+pub mod Text

@@ -1,0 +1,15 @@
+-- The value of a digit (document 01, 'The ticket': digits 0-9, A-F).
+use Prim.Native.Nat.{ℕ, _-_}
+use mathlib.Core.Bool.{Bool, cond, _&&_}
+use lib.Dec.{leb}
+
+-- What stands for a byte that is no digit.
+abbrev pub noDigit : ℕ
+noDigit = 16
+
+-- The value of a byte as a digit, 0 to 15, or `noDigit`. (48 is 0, 57 is 9, 65 is A, 70 is F.)
+unfoldable pub digitValue : ℕ → ℕ
+digitValue c = cond (leb 48 c && leb c 57) (c - 48) (cond (leb 65 c && leb c 70) (c - 55) noDigit)
+
+unfoldable pub isDigit : ℕ → Bool
+isDigit c = leb (digitValue c) 15

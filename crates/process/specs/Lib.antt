@@ -1,0 +1,5 @@
+pub mod PartState
+pub mod Frame
+pub mod Start
+pub mod Speak
+pub mod Close

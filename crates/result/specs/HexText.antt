@@ -1,0 +1,14 @@
+-- Bytes written as a line of text (document 01, 'The result': "the lines below in hexadecimal, each closed by 0A").
+use mathlib.Core.List.{List, [], _∷_}
+use Prim.Native.Nat.{ℕ, _+_, _/_, _%_}
+use mathlib.Core.Bool.{cond}
+use lib.Dec.{ltb}
+
+-- The digit 0-9, A-F of a value below 16. (48 is 0, 65 is A.)
+unfoldable pub digitOf : ℕ → ℕ
+digitOf v = cond (ltb v 10) (48 + v) (55 + v)
+
+-- A line: two digits for each byte, and 0A.
+unfoldable pub hexLine : List ℕ → List ℕ
+hexLine [] = 10 ∷ []
+hexLine (b ∷ bs) = digitOf (b / 16) ∷ digitOf (b % 16) ∷ hexLine bs

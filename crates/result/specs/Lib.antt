@@ -1,0 +1,4 @@
+pub mod HexText
+pub mod ResultLine
+pub mod Running
+pub mod Settle

@@ -1,0 +1,43 @@
+-- The lines of a result and of a refusal (document 01, 'The result').
+use mathlib.Core.List.{List, [], _∷_, _++_}
+use Prim.Native.Nat.{ℕ, suc, _*_}
+use Rattle.general.specs.BigEndian.{bytesOf}
+use Rattle.general.specs.Indexed.{mapFrom}
+use Rattle.protocol.specs.Instance.{Instance}
+use Rattle.protocol.specs.Round.{State, undecided, decided, crashed}
+use Rattle.protocol.specs.Run.{Run, runOf, crashesOf}
+use Rattle.result.specs.HexText.{hexLine}
+
+-- The end of a process (01 decided, 02 dark), the round of it, and the value, 0 if dark. Of an accepted ticket's run no process is left undecided;
+-- the end 00 of one that were is written by no result.
+unfoldable pub endBytes : State → List ℕ
+endBytes (undecided v) = 0 ∷ 0 ∷ bytesOf 4 v
+endBytes (decided round v) = 1 ∷ round ∷ bytesOf 4 v
+endBytes (crashed round) = 2 ∷ round ∷ bytesOf 4 0
+
+-- 11, station, end, round, value (4 bytes).
+unfoldable pub processLine : ℕ → State → List ℕ
+processLine p s = hexLine (0x11 ∷ p ∷ endBytes s)
+
+-- 12, rounds, f, speakers, data (2 bytes), commits (2 bytes).
+unfoldable pub lastLine : Instance → List ℕ
+lastLine x =
+    let run = runOf x in
+    hexLine (0x12 ∷ run .rounds ∷ crashesOf x ∷ run .speakers ∷ bytesOf 2 (run .dataSent) ++ bytesOf 2 (run .commitsSent))
+
+-- The lines one after the other.
+unfoldable pub joined : List (List ℕ) → List ℕ
+joined [] = []
+joined (line ∷ lines) = line ++ joined lines
+
+-- The result: a line for each process in order, and the last line.
+unfoldable pub resultText : Instance → List ℕ
+resultText x = joined (mapFrom processLine 1 (runOf x .states)) ++ lastLine x
+
+-- The bytes of a result of n processes: n + 1 lines of 17.
+unfoldable pub resultSize : ℕ → ℕ
+resultSize n = 17 * suc n
+
+-- A refusal: 1F, number, line (2 bytes).
+unfoldable pub refusalLine : ℕ → ℕ → List ℕ
+refusalLine number line = hexLine (0x1F ∷ number ∷ bytesOf 2 line)

@@ -1,0 +1,29 @@
+-- Running a ticket (document 01, 'The result' and 'Refused calls', "Running a ticket").
+use mathlib.Core.List.{List, _++_}
+use Prim.Native.Nat.{ℕ}
+use mathlib.Core.Bool.{cond}
+use lib.Dec.{ltb}
+use lib.ListN.{length, drop}
+use Rattle.protocol.specs.Instance.{Instance}
+use Rattle.ticket.specs.Reading.{Reading, accepted, refused}
+use Rattle.ticket.specs.Ticket.{readTicket}
+use Rattle.result.specs.ResultLine.{resultText, resultSize, refusalLine}
+
+-- The result of an instance in a buffer of `room` bytes; refusal 9, of no line, where it does not fit.
+unfoldable pub resultIn : ℕ → Reading Instance → Reading (List ℕ)
+resultIn room (accepted x) = cond (ltb room (resultSize (x .processes))) (refused 9 0) (accepted (resultText x))
+resultIn room (refused number line) = refused number line
+
+-- What running answers on a text and a buffer of `room` bytes: the result's text, or a refusal, 1 to 9, with its line.
+unfoldable pub running : List ℕ → ℕ → Reading (List ℕ)
+running text room = resultIn room (readTicket text)
+
+-- What a buffer holds afterwards: the result, and after it what stood there; after a refusal all as it was.
+unfoldable pub bufferAfter : Reading (List ℕ) → List ℕ → List ℕ
+bufferAfter (accepted result) buffer = result ++ drop (length result) buffer
+bufferAfter (refused number line) buffer = buffer
+
+-- What the program writes, which has room for every result.
+unfoldable pub written : Reading (List ℕ) → List ℕ
+written (accepted result) = result
+written (refused number line) = refusalLine number line
