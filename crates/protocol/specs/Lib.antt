@@ -6,3 +6,5 @@ pub mod Round
 pub mod Count
 pub mod Run
 pub mod Settling
+pub mod WellFormed
+pub mod Consensus

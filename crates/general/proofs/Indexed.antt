@@ -1,0 +1,27 @@
+-- Laws of `mapFrom`: its length, and what stands at each place; and that inside a list a default does not matter. Used wherever states are read process by process. Assumes nothing.
+use mathlib.Core.List.{List, [], _∷_}
+use mathlib.Core.Path.{_≡_, refl, ap, _∙_}
+use Prim.Native.Nat.{ℕ, zero, suc, _+_, _<_}
+use native.Mathlib.Omega.{arith}
+use lib.ListN.{length, getD}
+use Rattle.general.specs.Indexed.{mapFrom}
+
+module _ {A B : Type 0} (f : ℕ → A → B) where
+  pub length-mapFrom : (i : ℕ) (l : List A) → length (mapFrom f i l) ≡ length l
+  unfolding mapFrom
+  length-mapFrom i [] = refl
+  length-mapFrom i (a ∷ l) = ap suc (length-mapFrom (suc i) l)
+
+  pub getD-mapFrom : (i : ℕ) (l : List A) (k : ℕ) (a : A) (b : B) → k < length l → getD (mapFrom f i l) k b ≡ f (i + k) (getD l k a)
+  unfolding mapFrom
+  getD-mapFrom i [] k a b h = absurd (let z : ⊥ = omega arith in z)
+  getD-mapFrom i (c ∷ l) zero a b h = ap (λ (j : ℕ). f j c) (omega arith)
+  getD-mapFrom i (c ∷ l) (suc k) a b h =
+      let e : suc i + k ≡ i + suc k = omega arith in
+      getD-mapFrom (suc i) l k a b (omega arith) ∙ ap (λ (j : ℕ). f j (getD l k a)) e
+
+-- Inside a list, what `getD` would give outside it does not matter.
+pub getD-inside : {A : Type 0} (l : List A) (k : ℕ) (a b : A) → k < length l → getD l k a ≡ getD l k b
+getD-inside [] k a b h = absurd (let z : ⊥ = omega arith in z)
+getD-inside (c ∷ l) zero a b h = refl
+getD-inside (c ∷ l) (suc k) a b h = getD-inside l k a b (omega arith)
