@@ -1,0 +1,56 @@
+-- What a table says of one process, and that tables that say the same of every process stand for the same states. Assumes nothing.
+use mathlib.Core.List.{List}
+use mathlib.Core.Path.{_≡_, sym, ap, _∙_}
+use Prim.Native.Nat.{ℕ, suc, _+_, _-_, _≤_, _<_, min}
+use native.Mathlib.Omega.{arith}
+use lib.ListN.{length, getD, take, length-take}
+use lib.Seq.{getD-take, ext-getD}
+use Rattle.general.specs.Indexed.{mapFrom}
+use Rattle.general.proofs.Indexed.{length-mapFrom, getD-mapFrom}
+use Rattle.protocol.specs.Instance.{Instance, Fault, correct, faultOf}
+use Rattle.protocol.specs.Round.{State, crashed, stateOf}
+use Rattle.tables.specs.declared.InstanceTable.{InstanceTable}
+use Rattle.tables.specs.declared.RunTable.{RunTable}
+use Rattle.tables.specs.InstanceReading.{faultFrom, faultIn, instanceOf}
+use Rattle.tables.specs.RunReading.{stateFrom, stateIn, statesIn}
+
+-- A reading of the first n places of a list, taken with their numbers, at process p.
+module _ {B : Type 0} (f : ℕ → ℕ → B) (n : ℕ) (l : List ℕ) (fits : n ≤ length l) where
+  length-reading : length (mapFrom f 1 (take n l)) ≡ n
+  length-reading = length-mapFrom f 1 (take n l) ∙ length-take n l ∙ omega arith
+
+  at-process : (p : ℕ) (b : B) → 1 ≤ p → p ≤ n → getD (mapFrom f 1 (take n l)) (p - 1) b ≡ f p (getD l (p - 1) 0)
+  at-process p b h g =
+      let inside : p - 1 < length (take n l) = rw length-take (omega arith) in
+      let number : 1 + (p - 1) ≡ p = omega arith in
+      let place : p - 1 < n = omega arith in
+      getD-mapFrom f 1 (take n l) (p - 1) 0 b inside
+      ∙ ap (λ (q : ℕ). f q (getD (take n l) (p - 1) 0)) number
+      ∙ ap (f p) (getD-take n l (p - 1) 0 place)
+
+-- The fault of process p in a table.
+pub fault-at : (x : InstanceTable) (p : ℕ) → x .n ≤ length (x .rounds) → 1 ≤ p → p ≤ x .n
+    → faultOf (instanceOf x) p
+    ≡ faultFrom (getD (x .rounds) (p - 1) 0) (getD (x .steps) (p - 1) 0) (getD (x .sets) (p - 1) 0) (getD (x .counts) (p - 1) 0)
+unfolding faultOf instanceOf faultIn
+fault-at x p fits h g = at-process (faultIn x) (x .n) (x .rounds) fits p correct h g
+
+-- The state of process p in a table.
+pub state-in : (n : ℕ) (run : RunTable) (p : ℕ) → n ≤ length (run .ends) → 1 ≤ p → p ≤ n
+    → stateOf (statesIn n run) p ≡ stateFrom (getD (run .ends) (p - 1) 0) (getD (run .ended) (p - 1) 0) (getD (run .values) (p - 1) 0)
+unfolding stateOf statesIn stateIn
+state-in n run p fits h g = at-process (stateIn run) n (run .ends) fits p (crashed 0) h g
+
+pub length-statesIn : (n : ℕ) (run : RunTable) → n ≤ length (run .ends) → length (statesIn n run) ≡ n
+unfolding statesIn
+length-statesIn n run fits = length-reading (stateIn run) n (run .ends) fits
+
+-- Lists of states that are the same at each process are the same.
+pub states-ext : (n : ℕ) (l m : List State) → length l ≡ n → length m ≡ n
+    → ((p : ℕ) → 1 ≤ p → p ≤ n → stateOf l p ≡ stateOf m p) → l ≡ m
+unfolding stateOf
+states-ext n l m hl hm same =
+    ext-getD (crashed 0) l m (hl ∙ sym hm)
+    λ i h.
+    let place : suc i - 1 ≡ i = omega arith in
+    ap (λ (k : ℕ). getD l k (crashed 0)) (sym place) ∙ same (suc i) (omega arith) (omega arith) ∙ ap (λ (k : ℕ). getD m k (crashed 0)) place

@@ -1,0 +1,2 @@
+pub mod InstanceReading
+pub mod RunReading

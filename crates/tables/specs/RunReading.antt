@@ -1,0 +1,33 @@
+-- The run that a table stands for.
+use mathlib.Core.List.{List}
+use Prim.Native.Nat.{ℕ, _-_}
+use mathlib.Core.Bool.{cond}
+use lib.Dec.{eqb}
+use lib.ListN.{getD, take}
+use Rattle.general.specs.Indexed.{mapFrom}
+use Rattle.protocol.specs.Round.{State, undecided, decided, crashed}
+use Rattle.protocol.specs.Run.{Run}
+use Rattle.tables.specs.declared.RunTable.{RunTable}
+
+-- The state that an end (00 undecided, 01 decided, 02 crashed), the round of it and a value stand for.
+unfoldable pub stateFrom : (end round value : ℕ) → State
+stateFrom end round value = cond (eqb end 0) (undecided value) (cond (eqb end 1) (decided round value) (crashed round))
+
+-- The state of process p in a table, of which this is the end.
+unfoldable pub stateIn : RunTable → ℕ → ℕ → State
+stateIn run p end = stateFrom end (getD (run .ended) (p - 1) 0) (getD (run .values) (p - 1) 0)
+
+-- The states of the first n processes.
+unfoldable pub statesIn : ℕ → RunTable → List State
+statesIn n run = mapFrom (stateIn run) 1 (take n (run .ends))
+
+-- The run of n processes.
+unfoldable pub runFrom : ℕ → RunTable → Run
+runFrom n run =
+    record {
+      states = statesIn n run;
+      rounds = run .rounds;
+      speakers = run .speakers;
+      dataSent = run .sent;
+      commitsSent = run .commits;
+    }

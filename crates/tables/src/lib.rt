@@ -1,0 +1,24 @@
+// The tables by value that a ticket is read into and a run is kept in. Process p (document 01: station) stands at place p - 1.
+// specs/ says which instance and which run a table stands for.
+
+// What a ticket describes. A process is correct where its crash round is 0; the set is that of step 01 and the count that of step 02.
+pub struct InstanceTable {
+    pub n: u8,
+    pub t: u8,
+    pub values: [u32; 64],
+    pub rounds: [u8; 64],
+    pub steps: [u8; 64],
+    pub sets: [u64; 64],
+    pub counts: [u8; 64],
+}
+
+// Document 01: the table of 64 stations, with each one's value, round and end (00 undecided, 01 decided, 02 crashed); and what the run has counted.
+pub struct RunTable {
+    pub ends: [u8; 64],
+    pub ended: [u8; 64],
+    pub values: [u32; 64],
+    pub rounds: u8,
+    pub speakers: u8,
+    pub sent: u16,
+    pub commits: u16,
+}
