@@ -1,5 +1,5 @@
 -- Bytes written as a line of text (document 01, 'The result': "the lines below in hexadecimal, each closed by 0A").
-use mathlib.Core.List.{List, [], _∷_}
+use mathlib.Core.List.{List, [], _∷_, _++_}
 use Prim.Native.Nat.{ℕ, _+_, _/_, _%_}
 use mathlib.Core.Bool.{cond}
 use lib.Dec.{ltb}
@@ -8,7 +8,11 @@ use lib.Dec.{ltb}
 unfoldable pub digitOf : ℕ → ℕ
 digitOf v = cond (ltb v 10) (48 + v) (55 + v)
 
--- A line: two digits for each byte, and 0A.
+-- Two digits for each byte.
+unfoldable pub hexDigits : List ℕ → List ℕ
+hexDigits [] = []
+hexDigits (b ∷ bs) = digitOf (b / 16) ∷ digitOf (b % 16) ∷ hexDigits bs
+
+-- The digits and 0A.
 unfoldable pub hexLine : List ℕ → List ℕ
-hexLine [] = 10 ∷ []
-hexLine (b ∷ bs) = digitOf (b / 16) ∷ digitOf (b % 16) ∷ hexLine bs
+hexLine bs = hexDigits bs ++ (10 ∷ [])

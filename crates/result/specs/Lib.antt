@@ -1,4 +1,2 @@
 pub mod HexText
 pub mod ResultLine
-pub mod Running
-pub mod Settle

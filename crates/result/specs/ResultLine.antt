@@ -8,8 +8,8 @@ use Rattle.protocol.specs.Round.{State, undecided, decided, crashed}
 use Rattle.protocol.specs.Run.{Run, runOf, crashesOf}
 use Rattle.result.specs.HexText.{hexLine}
 
--- The end of a process (01 decided, 02 dark), the round of it, and the value, 0 if dark. Of an accepted ticket's run no process is left undecided;
--- the end 00 of one that were is written by no result.
+-- The end of a process (01 decided, 02 dark), the round of it, and the value, 0 if dark. No process is left undecided by the run of an accepted ticket,
+-- so that no result has the end 00 of one that is.
 unfoldable pub endBytes : State → List ℕ
 endBytes (undecided v) = 0 ∷ 0 ∷ bytesOf 4 v
 endBytes (decided round v) = 1 ∷ round ∷ bytesOf 4 v
@@ -20,19 +20,21 @@ unfoldable pub processLine : ℕ → State → List ℕ
 processLine p s = hexLine (0x11 ∷ p ∷ endBytes s)
 
 -- 12, rounds, f, speakers, data (2 bytes), commits (2 bytes).
-unfoldable pub lastLine : Instance → List ℕ
-lastLine x =
-    let run = runOf x in
-    hexLine (0x12 ∷ run .rounds ∷ crashesOf x ∷ run .speakers ∷ bytesOf 2 (run .dataSent) ++ bytesOf 2 (run .commitsSent))
+unfoldable pub lastLine : Run → ℕ → List ℕ
+lastLine run f = hexLine (0x12 ∷ run .rounds ∷ f ∷ run .speakers ∷ bytesOf 2 (run .dataSent) ++ bytesOf 2 (run .commitsSent))
 
 -- The lines one after the other.
 unfoldable pub joined : List (List ℕ) → List ℕ
 joined [] = []
 joined (line ∷ lines) = line ++ joined lines
 
--- The result: a line for each process in order, and the last line.
+-- The result of a run: a line for each process in order, and the last line.
+unfoldable pub resultLines : Run → ℕ → List ℕ
+resultLines run f = joined (mapFrom processLine 1 (run .states)) ++ lastLine run f
+
+-- The result of an instance.
 unfoldable pub resultText : Instance → List ℕ
-resultText x = joined (mapFrom processLine 1 (runOf x .states)) ++ lastLine x
+resultText x = resultLines (runOf x) (crashesOf x)
 
 -- The bytes of a result of n processes: n + 1 lines of 17.
 unfoldable pub resultSize : ℕ → ℕ
