@@ -14,7 +14,7 @@ unfoldable pub textOf : List String → List ℕ
 textOf [] = []
 textOf (line ∷ lines) = ascii line ++ (10 ∷ []) ++ textOf lines
 
--- Case 1: station 1 crashes after one commit.
+-- Case 1: process 1 crashes after one commit.
 unfoldable pub case1 : Case
 case1 =
     record {
@@ -67,7 +67,7 @@ unfoldable pub case7 : Case
 case7 =
     record {
       ticket = "010402" ∷ "02010000000A" ∷ "020200000014" ∷ "02030000001E" ∷ "020400000028" ∷ "03010102000000000000000001" ∷ "03040200000000000000000000" ∷ "04" ∷ [];
-      output = "1101020100000000" ∷ "110201020000000A" ∷ "110301020000000A" ∷ "110401010000000A" ∷ "1202010200050003" ∷ [];
+      output = case1 .output;
     }
 
 -- Case 8: only an idle failure line, of process 3.

@@ -1,5 +1,5 @@
 -- Laws of `mapFrom`: its length, and what stands at each place; and that inside a list a default does not matter. Used wherever states are read process by process. Assumes nothing.
-use mathlib.Core.List.{List, [], _∷_}
+use mathlib.Core.List.{List, [], _∷_, _++_}
 use mathlib.Core.Path.{_≡_, refl, ap, _∙_}
 use Prim.Native.Nat.{ℕ, zero, suc, _+_, _<_}
 use native.Mathlib.Omega.{arith}
@@ -19,6 +19,14 @@ module _ {A B : Type 0} (f : ℕ → A → B) where
   getD-mapFrom i (c ∷ l) (suc k) a b h =
       let e : suc i + k ≡ i + suc k = omega arith in
       getD-mapFrom (suc i) l k a b (omega arith) ∙ ap (λ (j : ℕ). f j (getD l k a)) e
+
+  -- One element more at the end.
+  pub mapFrom-snoc : (i : ℕ) (l : List A) (a : A) → mapFrom f i (l ++ (a ∷ [])) ≡ mapFrom f i l ++ (f (i + length l) a ∷ [])
+  unfolding mapFrom
+  mapFrom-snoc i [] a = ap (λ (j : ℕ). f j a ∷ []) (omega arith)
+  mapFrom-snoc i (b ∷ l) a =
+      let e : suc i + length l ≡ i + suc (length l) = omega arith in
+      ap (λ (m : List B). f i b ∷ m) (mapFrom-snoc (suc i) l a ∙ ap (λ (j : ℕ). mapFrom f (suc i) l ++ (f j a ∷ [])) e)
 
 -- Inside a list, what `getD` would give outside it does not matter.
 pub getD-inside : {A : Type 0} (l : List A) (k : ℕ) (a b : A) → k < length l → getD l k a ≡ getD l k b

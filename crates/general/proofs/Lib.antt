@@ -1,1 +1,3 @@
+pub mod BigEndian
 pub mod Indexed
+pub mod Overwrite

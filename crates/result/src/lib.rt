@@ -1,1 +1,111 @@
-// Definitions only: specs/.
+// Writing the lines of a result (document 01, 'The result'), each straight into the part of the output that follows the line before it.
+ghost use mathlib.Core.Path.{_≡_};
+ghost use mathlib.Core.List.{_∷_, _++_};
+ghost use Prim.Native.Nat.{_+_, _*_, _/_, _%_, _≤_, _<_};
+ghost use lib.ListN.{length, set, drop};
+ghost use Rattle.general.specs.BigEndian.{bytesOf};
+ghost use Rattle.general.specs.Indexed.{mapFrom};
+ghost use Rattle.tables.specs.RunReading.{stateFrom, statesIn, runFrom};
+ghost use Rattle.result.specs.HexText.{digitOf, hexLine};
+ghost use Rattle.result.specs.ResultLine.{endBytes, processLine, lastLine, joined, resultLines, resultSize};
+use tables::RunTable;
+
+// The digit of a value.
+fn digit(v: u8) -> u8
+    requires { ⌜ v < 16 ⌝ }
+    ensures { λ r. ⌜ r ≡ digitOf v ⌝ }
+{
+    if v < 10 { 48 + v } else { 55 + v }
+}
+
+// Two digits at a place.
+fn put_byte(out: &mut [u8], at: usize, b: u8)
+    requires { ⌜ at + 1 < length (now out) ⌝ }
+    ensures { λ r. ⌜ now (out .exit) ≡ set (set (now (out .entry)) at (digitOf (b / 16))) (at + 1) (digitOf (b % 16)) ⌝ }
+{
+    out[at] = digit(b / 16);
+    out[at + 1] = digit(b % 16);
+}
+
+// A line of eight bytes at the front of a part of the output.
+fn put_line(out: &mut [u8], bytes: [u8; 8])
+    requires { ⌜ 17 ≤ length (now out) ⌝ }
+    ensures { λ r. ⌜ now (out .exit) ≡ hexLine bytes ++ drop 17 (now (out .entry)) ⌝ }
+{
+    let mut k = 0;
+    while k < 8 {
+        put_byte(out, 2 * k, bytes[k]);
+        k += 1;
+    }
+    out[16] = 10;
+}
+
+// The bytes of a line that ends in a value.
+fn value_line(kind: u8, p: u8, end: u8, round: u8, value: u32) -> [u8; 8]
+    ensures { λ r. ⌜ r ≡ kind ∷ p ∷ end ∷ round ∷ bytesOf 4 value ⌝ }
+{
+    [
+        kind,
+        p,
+        end,
+        round,
+        (value / 16777216 % 256) as u8,
+        (value / 65536 % 256) as u8,
+        (value / 256 % 256) as u8,
+        (value % 256) as u8,
+    ]
+}
+
+// The bytes of a process's line. (17 is 11 in hexadecimal.)
+fn process_bytes(p: u8, end: u8, round: u8, value: u32) -> [u8; 8]
+    ensures { λ r. ⌜ r ≡ 17 ∷ p ∷ endBytes (stateFrom end round value) ⌝ }
+{
+    if end == 0 {
+        return value_line(17, p, 0, 0, value);
+    }
+    if end == 1 {
+        return value_line(17, p, 1, round, value);
+    }
+    value_line(17, p, 2, round, 0)
+}
+
+// The bytes of the last line. (18 is 12 in hexadecimal.)
+fn last_bytes(rounds: u8, f: u8, speakers: u8, sent: u16, commits: u16) -> [u8; 8]
+    ensures { λ r. ⌜ r ≡ 18 ∷ rounds ∷ f ∷ speakers ∷ bytesOf 2 sent ++ bytesOf 2 commits ⌝ }
+{
+    [
+        18,
+        rounds,
+        f,
+        speakers,
+        (sent / 256 % 256) as u8,
+        (sent % 256) as u8,
+        (commits / 256 % 256) as u8,
+        (commits % 256) as u8,
+    ]
+}
+
+// The lines of the first n processes, each in the part of the output that follows the line before.
+fn put_process_lines(out: &mut [u8], n: usize, run: RunTable)
+    requires { ⌜ (n ≤ 64) × (17 * n ≤ length (now out)) ⌝ }
+    ensures { λ r. ⌜ now (out .exit) ≡ joined (mapFrom processLine 1 (statesIn n run)) ++ drop (17 * n) (now (out .entry)) ⌝ }
+{
+    let mut i = 0;
+    while i < n {
+        let line = process_bytes((i + 1) as u8, run.ends[i], run.ended[i], run.values[i]);
+        put_line(&mut out[17 * i..], line);
+        i += 1;
+    }
+}
+
+// The whole result of a run of n processes, f of which crashed.
+pub fn write_result(out: &mut [u8], n: u8, run: RunTable, f: u8)
+    requires { ⌜ (n ≤ 64) × (resultSize n ≤ length (now out)) ⌝ }
+    ensures { λ r. ⌜ now (out .exit) ≡ resultLines (runFrom n run) f ++ drop (resultSize n) (now (out .entry)) ⌝ }
+{
+    let count = n as usize;
+    put_process_lines(out, count, run);
+    let at = 17 * count;
+    let line = last_bytes(run.rounds, f, run.speakers, run.sent, run.commits);
+    put_line(&mut out[at..], line);
+}

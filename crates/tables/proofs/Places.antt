@@ -41,6 +41,14 @@ pub state-in : (n : ℕ) (run : RunTable) (p : ℕ) → n ≤ length (run .ends)
 unfolding stateOf statesIn stateIn
 state-in n run p fits h g = at-process (stateIn run) n (run .ends) fits p (crashed 0) h g
 
+-- The same, of the process at place i.
+pub state-at-place : (n : ℕ) (run : RunTable) (i : ℕ) → n ≤ length (run .ends) → i < n
+    → stateOf (statesIn n run) (i + 1) ≡ stateFrom (getD (run .ends) i 0) (getD (run .ended) i 0) (getD (run .values) i 0)
+state-at-place n run i fits h =
+    let place : i + 1 - 1 ≡ i = omega arith in
+    state-in n run (i + 1) fits (omega arith) (omega arith)
+    ∙ ap (λ (k : ℕ). stateFrom (getD (run .ends) k 0) (getD (run .ended) k 0) (getD (run .values) k 0)) place
+
 pub length-statesIn : (n : ℕ) (run : RunTable) → n ≤ length (run .ends) → length (statesIn n run) ≡ n
 unfolding statesIn
 length-statesIn n run fits = length-reading (stateIn run) n (run .ends) fits

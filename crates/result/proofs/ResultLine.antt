@@ -1,0 +1,136 @@
+-- Laws of result lines: one for each branch of `process_bytes`, the length of a line, and what one line more does to an output that is being written. Assumes nothing.
+use mathlib.Core.List.{List, [], _∷_, _++_, append-nil, append-assoc}
+use mathlib.Core.Path.{_≡_, refl, sym, ap, ap₂, _∙_}
+use Prim.Native.Nat.{ℕ, zero, suc, _+_, _-_, _*_, _≤_, _<_}
+use native.Mathlib.Omega.{arith}
+use native.Mathlib.Numerals.{add-one}
+use borrow.Author.Tests.{ne-eqb}
+use borrow.Rule.Slice.PartMut.{midOf, putMid}
+use lib.ListN.{length, drop, getD, take, length-take, length-drop, length-append}
+use lib.Seq.{take-suc, take-all, take-at, drop-at, drop-drop}
+use Rattle.general.specs.BigEndian.{bytesOf}
+use Rattle.general.specs.Indexed.{mapFrom}
+use Rattle.general.proofs.Indexed.{mapFrom-snoc}
+use Rattle.general.proofs.Overwrite.{put-part}
+use Rattle.protocol.specs.Round.{State, undecided, decided, crashed, stateOf}
+use Rattle.protocol.specs.Run.{Run}
+use Rattle.tables.specs.RunReading.{stateFrom}
+use Rattle.result.specs.HexText.{hexDigits, hexLine}
+use Rattle.result.specs.ResultLine.{endBytes, processLine, lastLine, joined, resultLines, resultSize}
+
+-- What `process_bytes` returns, by the process's end.
+module _ (line : List ℕ) (p end round v : ℕ) where
+  pub line-undecided : line ≡ 17 ∷ p ∷ 0 ∷ 0 ∷ bytesOf 4 v → end ≡ 0 → line ≡ 17 ∷ p ∷ endBytes (stateFrom end round v)
+  unfolding endBytes stateFrom
+  line-undecided e h = rw h e
+
+  pub line-decided : line ≡ 17 ∷ p ∷ 1 ∷ round ∷ bytesOf 4 v → end ≡ 1 → line ≡ 17 ∷ p ∷ endBytes (stateFrom end round v)
+  unfolding endBytes stateFrom
+  line-decided e h = rw h e
+
+  pub line-crashed : line ≡ 17 ∷ p ∷ 2 ∷ round ∷ bytesOf 4 0 → (end ≡ 0 → ⊥) → (end ≡ 1 → ⊥) → line ≡ 17 ∷ p ∷ endBytes (stateFrom end round v)
+  unfolding endBytes stateFrom
+  line-crashed e h g = simp (ne-eqb end 0 h, ne-eqb end 1 g) e
+
+pub line-of : (line : List ℕ) (p : ℕ) (s s′ : State) → line ≡ 17 ∷ p ∷ endBytes s → s′ ≡ s → hexLine line ≡ processLine p s′
+unfolding processLine
+line-of line p s s′ e g = rw (e, g)
+
+-- Every process line has 17 bytes.
+pub length-line : (p : ℕ) (s : State) → length (processLine p s) ≡ 17
+unfolding processLine endBytes bytesOf hexLine hexDigits
+length-line p (undecided v) = refl
+length-line p (decided round v) = refl
+length-line p (crashed round) = refl
+
+length-last : (run : Run) (f : ℕ)
+    → length (hexLine (18 ∷ run .rounds ∷ f ∷ run .speakers ∷ bytesOf 2 (run .dataSent) ++ bytesOf 2 (run .commitsSent))) ≡ 17
+unfolding bytesOf hexLine hexDigits
+length-last run f = refl
+
+joined-snoc : (lines : List (List ℕ)) (line : List ℕ) → joined (lines ++ (line ∷ [])) ≡ joined lines ++ line
+unfolding joined
+joined-snoc [] line = append-nil line
+joined-snoc (l ∷ lines) line = ap (λ (m : List ℕ). l ++ m) (joined-snoc lines line) ∙ sym (append-assoc l (joined lines) line)
+
+-- The lines of the first i processes.
+unfoldable pub linesTo : List State → ℕ → List ℕ
+linesTo states i = joined (mapFrom processLine 1 (take i states))
+
+module _ (states : List State) where
+  pub lines-none : linesTo states 0 ≡ []
+  unfolding linesTo mapFrom joined
+  lines-none = refl
+
+  pub lines-all : (n : ℕ) → length states ≡ n → linesTo states n ≡ joined (mapFrom processLine 1 states)
+  unfolding linesTo
+  lines-all n h = rw (take-all n states (omega arith))
+
+  pub lines-more : (i : ℕ) (d : State) → i < length states → linesTo states (suc i) ≡ linesTo states i ++ processLine (suc i) (getD states i d)
+  unfolding linesTo
+  lines-more i d h =
+      let place : 1 + length (take i states) ≡ suc i = ap (λ (m : ℕ). 1 + m) (length-take i states) ∙ omega arith in
+      ap (λ (l : List State). joined (mapFrom processLine 1 l)) (take-suc states i d h)
+      ∙ ap joined (mapFrom-snoc processLine 1 (take i states) (getD states i d))
+      ∙ joined-snoc (mapFrom processLine 1 (take i states)) _
+      ∙ ap (λ (p : ℕ). linesTo states i ++ processLine p (getD states i d)) place
+
+  pub length-lines : (i : ℕ) → i ≤ length states → length (linesTo states i) ≡ 17 * i
+  length-lines zero h = ap length lines-none
+  length-lines (suc i) h =
+      ap length (lines-more i (crashed 0) h)
+      ∙ length-append (linesTo states i) _
+      ∙ ap₂ (λ (a b : ℕ). a + b) (length-lines i (omega arith)) (length-line (suc i) (getD states i (crashed 0)))
+      ∙ omega arith
+
+-- An output whose first i lines are written, over what stood there before.
+unfoldable pub withLines : List State → List ℕ → ℕ → List ℕ
+withLines states before i = linesTo states i ++ drop (17 * i) before
+
+module _ (states : List State) (before : List ℕ) where
+  pub with-none : withLines states before 0 ≡ before
+  unfolding withLines
+  with-none = rw lines-none
+
+  pub with-all : (n : ℕ) → length states ≡ n → withLines states before n ≡ joined (mapFrom processLine 1 states) ++ drop (17 * n) before
+  unfolding withLines
+  with-all n h = rw (lines-all states n h)
+
+  pub length-with : (i : ℕ) → i ≤ length states → 17 * i ≤ length before → length (withLines states before i) ≡ length before
+  unfolding withLines
+  length-with i h fits =
+      length-append (linesTo states i) (drop (17 * i) before) ∙ ap₂ (λ (a b : ℕ). a + b) (length-lines states i h) (length-drop (17 * i) before) ∙ omega arith
+
+  -- The part lent for line i + 1 comes back with it.
+  pub with-more : (i : ℕ) (out line back : List ℕ) → i < length states → 17 * (i + 1) ≤ length before → out ≡ withLines states before i
+      → line ≡ processLine (i + 1) (stateOf states (i + 1))
+      → back ≡ line ++ drop 17 (midOf (17 * i) (length out - 17 * i) out)
+      → putMid (17 * i) (length out - 17 * i) out back ≡ withLines states before (i + 1)
+  unfolding withLines stateOf
+  with-more i out line back h fits o l b =
+      let next : 17 * i + 17 ≡ 17 * (i + 1) = omega arith in
+      let place : i + 1 - 1 ≡ i = omega arith in
+      let row : processLine (i + 1) (getD states (i + 1 - 1) (crashed 0)) ≡ processLine (suc i) (getD states i (crashed 0)) =
+      ap₂ (λ (p k : ℕ). processLine p (getD states k (crashed 0))) (add-one i) place in
+      let wide : length line ≡ 17 = ap length l ∙ length-line (i + 1) _ in
+      let longer : linesTo states i ++ line ≡ linesTo states (i + 1) =
+      ap (λ (m : List ℕ). linesTo states i ++ m) (l ∙ row) ∙ sym (lines-more states i (crashed 0) h) ∙ ap (linesTo states) (sym (add-one i)) in
+      rw (b, o)
+      (put-part (linesTo states i) line before (17 * i) 17 (length-lines states i (omega arith)) wide (omega arith)
+      ∙ ap₂ (λ (m : List ℕ) (k : ℕ). m ++ drop k before) longer next)
+
+-- The last line, in the part that follows the others, makes the result whole.
+module _ (run : Run) (f n : ℕ) (before : List ℕ) where
+  pub result-written : (out line back : List ℕ) → length (run .states) ≡ n → resultSize n ≤ length before
+      → out ≡ joined (mapFrom processLine 1 (run .states)) ++ drop (17 * n) before
+      → line ≡ 18 ∷ run .rounds ∷ f ∷ run .speakers ∷ bytesOf 2 (run .dataSent) ++ bytesOf 2 (run .commitsSent)
+      → back ≡ hexLine line ++ drop 17 (midOf (17 * n) (length out - 17 * n) out)
+      → putMid (17 * n) (length out - 17 * n) out back ≡ resultLines run f ++ drop (resultSize n) before
+  unfolding resultLines lastLine resultSize
+  result-written out line back h fits o l b =
+      let next : 17 * n + 17 ≡ 17 * suc n = omega arith in
+      let size : length (joined (mapFrom processLine 1 (run .states))) ≡ 17 * n =
+      ap length (sym (lines-all (run .states) n h)) ∙ length-lines (run .states) n (omega arith) in
+      rw (b, o, l)
+      (put-part (joined (mapFrom processLine 1 (run .states))) _ before (17 * n) 17 size (length-last run f) (omega arith)
+      ∙ ap (λ (k : ℕ). resultLines run f ++ drop k before) next)

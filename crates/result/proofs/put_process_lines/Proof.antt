@@ -1,0 +1,112 @@
+-- `result::put_process_lines` meets its contract. Invariant: the lines of the processes passed, followed by what stood there before. Assumes nothing.
+use Prim.Native.Nat.{_+_, _-_, _≤_}
+use Rattle.result.proofs.ResultLine.{line-of, withLines, length-with, with-none, with-all, with-more}
+use Rattle.result.proofs.put_process_lines.Statement.{statement}
+use Rattle.result.proofs.put_process_lines.Tie as tie
+use Rattle.tables.proofs.Places.{state-at-place, length-statesIn}
+use Rattle.tables.specs.RunReading.{statesIn}
+use borrow.Author.Needs.{needs}
+use lib.ListN.{length}
+use mathlib.Core.Path.{_≡_, refl, sym, ap, _∙_}
+use native.Mathlib.Omega.{arith}
+
+abbrev Inv-loop : tie.InvT-loop
+Inv-loop out₀ n run i₀ out i = (i ≤ n) × (n ≤ length (run .ends)) × (length out ≡ length out₀) × (out ≡ withLines (statesIn n run) out₀ i)
+
+abbrev μ-loop : tie.MeasureT-loop
+μ-loop out₀ n run i₀ out i = n - i
+
+loop-holds : tie.Need-loop-holds Inv-loop μ-loop
+loop-holds c =
+    let places : length (c .before .args .t3 .ends) ≡ 64 = search needs in
+    (omega arith, omega arith, refl, sym (with-none _ _))
+
+add-process-bytes : tie.Need-add-process-bytes Inv-loop μ-loop
+add-process-bytes c = search needs
+
+cast-process-bytes : tie.Need-cast-process-bytes Inv-loop μ-loop
+cast-process-bytes c = search needs
+
+element-copy-out-process-bytes : tie.Need-element-copy-out-process-bytes Inv-loop μ-loop
+element-copy-out-process-bytes c = search needs
+
+element-copy-out-process-bytes-2 : tie.Need-element-copy-out-process-bytes-2 Inv-loop μ-loop
+element-copy-out-process-bytes-2 c = search needs
+
+mul-process-bytes : tie.Need-mul-process-bytes Inv-loop μ-loop
+mul-process-bytes c = search needs
+
+element-copy-out-process-bytes-3 : tie.Need-element-copy-out-process-bytes-3 Inv-loop μ-loop
+element-copy-out-process-bytes-3 c = search needs
+
+process-bytes-requires : tie.Need-process-bytes-requires Inv-loop μ-loop
+process-bytes-requires c κs = search needs
+
+mul-put-line : tie.Need-mul-put-line Inv-loop μ-loop
+mul-put-line c = search needs
+
+sub-put-line : tie.Need-sub-put-line Inv-loop μ-loop
+sub-put-line c = search needs
+
+part-put-line-start : tie.Need-part-put-line-start Inv-loop μ-loop
+part-put-line-start c = search needs
+
+part-put-line-end : tie.Need-part-put-line-end Inv-loop μ-loop
+part-put-line-end c = search needs
+
+put-line-requires : tie.Need-put-line-requires Inv-loop μ-loop
+put-line-requires c κs = search needs
+
+add-i : tie.Need-add-i Inv-loop μ-loop
+add-i c = search needs
+
+loop-less : tie.Need-loop-less Inv-loop μ-loop
+loop-less c = search needs
+
+loop-again : tie.Need-loop-again Inv-loop μ-loop
+loop-again c =
+    let written = c .before .before in
+    let turn = written .before .before .before .before .before .before .before in
+    let start = turn .before .before .args in
+    let line = written .before .before in
+    let inv = turn .loop .inv in
+    let size : length (statesIn (start .n) (start .t3)) ≡ start .n = length-statesIn (start .n) (start .t3) (inv .1) in
+    let more = with-more (statesIn (start .n) (start .t3)) (start .out .now) (turn .loop .i) (turn .loop .out) _ _ (omega arith) (omega arith) (inv .3)
+    (line-of _ _ _ _ (line .process-bytes .ensures) (state-at-place (start .n) (start .t3) (turn .loop .i) (inv .1) (omega arith)))
+    (written .put-line .ensures) in
+    (omega arith, inv .1, ap length more ∙ length-with (statesIn (start .n) (start .t3)) (start .out .now) (turn .loop .i + 1) (omega arith) (omega arith), more)
+
+same-length : tie.Need-same-length Inv-loop μ-loop
+same-length c = search needs
+
+returns : tie.Need-returns Inv-loop μ-loop
+returns c =
+    let start = c .before .before .before .args in
+    let inv = c .before .loop .inv in
+    let last : c .before .loop .i ≡ start .n = omega arith in
+    inv .3 ∙ rw last (with-all _ _ (start .n) (length-statesIn (start .n) (start .t3) (inv .1)))
+
+pub put-process-lines-spec : {M : Type 1} → statement M
+put-process-lines-spec =
+    tie.close
+    (tie.spec
+    Inv-loop
+    μ-loop
+    loop-holds
+    add-process-bytes
+    cast-process-bytes
+    element-copy-out-process-bytes
+    element-copy-out-process-bytes-2
+    mul-process-bytes
+    element-copy-out-process-bytes-3
+    process-bytes-requires
+    mul-put-line
+    sub-put-line
+    part-put-line-start
+    part-put-line-end
+    put-line-requires
+    add-i
+    loop-less
+    loop-again
+    same-length
+    returns)
