@@ -1,0 +1,7 @@
+pub mod Digit
+pub mod DigitCount
+pub mod Bytes
+pub mod FirstLine
+pub mod Answer
+pub mod Read
+pub mod Word

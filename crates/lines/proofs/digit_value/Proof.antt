@@ -1,0 +1,28 @@
+-- `lines::digit_value` meets its contract: each return is one range of bytes. Assumes nothing.
+use borrow.Author.Needs.{needs}
+use native.Mathlib.Omega.{arith}
+use mathlib.Core.Path.{sym}
+use Rattle.lines.proofs.Digit.{value-below, value-figure, value-between, value-letter, value-above}
+use Rattle.lines.proofs.digit_value.Statement.{statement}
+use Rattle.lines.proofs.digit_value.Tie as tie
+
+returns : tie.Need-returns
+returns c = sym (value-below _ (omega arith))
+
+returns-2 : tie.Need-returns-2
+returns-2 c = sym (value-figure _ (omega arith) (omega arith))
+
+returns-3 : tie.Need-returns-3
+returns-3 c = sym (value-between _ (omega arith) (omega arith))
+
+sub-result : tie.Need-sub-result
+sub-result c = search needs
+
+returns-4 : tie.Need-returns-4
+returns-4 c = sym (value-letter _ (omega arith) (omega arith))
+
+returns-5 : tie.Need-returns-5
+returns-5 c = sym (value-above _ (omega arith))
+
+pub digit-value-spec : {M : Type 1} → statement M
+digit-value-spec = tie.close (tie.spec returns returns-2 returns-3 sub-result returns-4 returns-5)
