@@ -1,7 +1,7 @@
 -- Laws of result lines: one for each branch of `process_bytes`, the length of a line, and what one line more does to an output that is being written. Assumes nothing.
 use mathlib.Core.List.{List, [], _∷_, _++_, append-nil, append-assoc}
 use mathlib.Core.Path.{_≡_, refl, sym, ap, ap₂, _∙_}
-use Prim.Native.Nat.{ℕ, zero, suc, _+_, _-_, _*_, _≤_, _<_}
+use Prim.Native.Nat.{ℕ, zero, suc, _+_, _-_, _*_, _/_, _%_, _≤_, _<_}
 use native.Mathlib.Omega.{arith}
 use native.Mathlib.Numerals.{add-one}
 use borrow.Author.Tests.{ne-eqb}
@@ -15,8 +15,8 @@ use Rattle.general.proofs.Overwrite.{put-part}
 use Rattle.protocol.specs.Round.{State, undecided, decided, crashed, stateOf}
 use Rattle.protocol.specs.Run.{Run}
 use Rattle.tables.specs.RunReading.{stateFrom}
-use Rattle.result.specs.HexText.{hexDigits, hexLine}
-use Rattle.result.specs.ResultLine.{endBytes, processLine, lastLine, joined, resultLines, resultSize}
+use Rattle.result.specs.HexText.{digitOf, hexDigits, hexLine}
+use Rattle.result.specs.ResultLine.{endBytes, processLine, lastLine, joined, resultLines, resultSize, refusalLine}
 
 -- What `process_bytes` returns, by the process's end.
 module _ (line : List ℕ) (p end round v : ℕ) where
@@ -47,6 +47,18 @@ length-last : (run : Run) (f : ℕ)
     → length (hexLine (18 ∷ run .rounds ∷ f ∷ run .speakers ∷ bytesOf 2 (run .dataSent) ++ bytesOf 2 (run .commitsSent))) ≡ 17
 unfolding bytesOf hexLine hexDigits
 length-last run f = refl
+
+-- A refusal, digit by digit.
+pub refusal-digits : (number line a b c d e f g h : ℕ) → a ≡ digitOf 1 → b ≡ digitOf 15 → c ≡ digitOf (number / 16) → d ≡ digitOf (number % 16)
+    → e ≡ digitOf (line / 4096 % 16) → f ≡ digitOf (line / 256 % 16) → g ≡ digitOf (line / 16 % 16) → h ≡ digitOf (line % 16)
+    → a ∷ b ∷ c ∷ d ∷ e ∷ f ∷ g ∷ h ∷ 10 ∷ [] ≡ refusalLine number line
+unfolding refusalLine hexLine hexDigits bytesOf
+refusal-digits number line a b c d e f g h ea eb ec ed ee ef eg eh =
+    let fifth : line / 256 % 256 / 16 ≡ line / 4096 % 16 = omega arith in
+    let sixth : line / 256 % 256 % 16 ≡ line / 256 % 16 = omega arith in
+    let seventh : line % 256 / 16 ≡ line / 16 % 16 = omega arith in
+    let eighth : line % 256 % 16 ≡ line % 16 = omega arith in
+    rw (ea, eb, ec, ed, ee, ef, eg, eh, fifth, sixth, seventh, eighth)
 
 joined-snoc : (lines : List (List ℕ)) (line : List ℕ) → joined (lines ++ (line ∷ [])) ≡ joined lines ++ line
 unfolding joined

@@ -7,7 +7,7 @@ ghost use Rattle.general.specs.BigEndian.{bytesOf};
 ghost use Rattle.general.specs.Indexed.{mapFrom};
 ghost use Rattle.tables.specs.RunReading.{stateFrom, statesIn, runFrom};
 ghost use Rattle.result.specs.HexText.{digitOf, hexLine};
-ghost use Rattle.result.specs.ResultLine.{endBytes, processLine, lastLine, joined, resultLines, resultSize};
+ghost use Rattle.result.specs.ResultLine.{endBytes, processLine, lastLine, joined, resultLines, resultSize, refusalLine};
 use tables::RunTable;
 
 // The digit of a value.
@@ -108,4 +108,21 @@ pub fn write_result(out: &mut [u8], n: u8, run: RunTable, f: u8)
     let at = 17 * count;
     let line = last_bytes(run.rounds, f, run.speakers, run.sent, run.commits);
     put_line(&mut out[at..], line);
+}
+
+// The line of a refusal: 1F, its number, and the line of the ticket in two bytes.
+pub fn refusal_text(number: u8, line: u16) -> [u8; 9]
+    ensures { λ r. ⌜ r ≡ refusalLine number line ⌝ }
+{
+    [
+        digit(1),
+        digit(15),
+        digit(number / 16),
+        digit(number % 16),
+        digit((line / 4096 % 16) as u8),
+        digit((line / 256 % 16) as u8),
+        digit((line / 16 % 16) as u8),
+        digit((line % 16) as u8),
+        10,
+    ]
 }
