@@ -8,3 +8,4 @@ pub mod Run
 pub mod Settling
 pub mod WellFormed
 pub mod Consensus
+pub mod SpeakerBound

@@ -1,0 +1,90 @@
+-- f, the failure lines that are not idle, is the number of processes that end crashed (document 01, 'A round': 'It goes dark undecided exactly when it has a failure line that is not idle').
+-- For well-formed instances. Assumes nothing else.
+use mathlib.Core.List.{List, [], _∷_}
+use mathlib.Core.Path.{_≡_, refl, sym, ap₂}
+use mathlib.Core.Bool.{true, false}
+use Prim.Native.Nat.{ℕ, zero, suc, _+_, _≤_, _<_}
+use native.Mathlib.Numerals.{unary-clauses}
+use native.Mathlib.Omega.{arith}
+use lib.ListN.{length, getD}
+use borrow.Author.Tests.{lt-ltb}
+use Rattle.protocol.specs.Instance.{Instance, Fault, correct, crashes, faultOf}
+use Rattle.protocol.specs.Round.{State, undecided, decided, crashed, stateOf, crashesIn}
+use Rattle.protocol.specs.Count.{isIdle, countsAsCrash, crashCount}
+use Rattle.protocol.specs.Run.{runOf, crashesOf}
+use Rattle.protocol.specs.WellFormed.{WellFormed, FaultAllowed}
+use Rattle.protocol.specs.Consensus.{IsProcess, endOf}
+use Rattle.protocol.proofs.Pointwise.{stateAt}
+use Rattle.protocol.proofs.Ends.{states-at-end, end-at}
+use Rattle.protocol.proofs.Faults.{crashed-by-fault, undecided-before-fault, decided-before-fault}
+
+-- 1 for a process that has crashed.
+unfoldable pub hasCrashed : State → ℕ
+hasCrashed (undecided v) = 0
+hasCrashed (decided round v) = 0
+hasCrashed (crashed round) = 1
+
+pub crashed-is-one : (s : State) (j : ℕ) → s ≡ crashed j → hasCrashed s ≡ 1
+unfolding hasCrashed
+crashed-is-one s j e = rw e
+
+-- How many processes have crashed.
+unfoldable pub crashedCount : List State → ℕ
+crashedCount [] = 0
+crashedCount (s ∷ states) = hasCrashed s + crashedCount states
+
+-- The failure lines that are not idle are the crashed processes, if they are so process by process.
+count-by-process : (faults : List Fault) (states : List State) → length faults ≡ length states
+    → ((k : ℕ) → k < length states → countsAsCrash (getD faults k correct) (getD states k (crashed 0)) ≡ hasCrashed (getD states k (crashed 0)))
+    → crashCount faults states ≡ crashedCount states
+unfolding crashCount crashedCount
+count-by-process [] [] e h = refl
+count-by-process [] (s ∷ states) e h = absurd (let z : ⊥ = omega arith in z)
+count-by-process (fault ∷ faults) [] e h = refl
+count-by-process (fault ∷ faults) (s ∷ states) e h =
+    ap₂ _+_ (h 0 (omega arith)) (count-by-process faults states (omega arith) (λ k g. h (suc k) (omega arith)))
+
+-- If the first m have crashed, at least m have.
+first-crashed : (m : ℕ) (states : List State) → m ≤ length states → ((k : ℕ) → k < m → hasCrashed (getD states k (crashed 0)) ≡ 1) → m ≤ crashedCount states
+unfolding crashedCount
+first-crashed zero states h all = omega arith
+first-crashed (suc m) [] h all = absurd (let z : ⊥ = omega arith in z)
+first-crashed (suc m) (s ∷ states) h all =
+    omega (arith, all 0 (omega arith), first-crashed m states (omega arith) (λ k g. all (suc k) (omega arith)))
+
+module _ (x : Instance) (formed : WellFormed x) where
+  -- A failure line is not idle just if its process ends crashed.
+  line-counts : (p : ℕ) (fault : Fault) → faultOf x p ≡ fault → FaultAllowed (x .processes) (x .resilience) p fault → (s : State) → stateAt x (suc (x .resilience)) p ≡ s
+      → countsAsCrash fault s ≡ hasCrashed s
+  unfolding countsAsCrash isIdle hasCrashed FaultAllowed crashesIn
+  line-counts p correct f allowed (undecided v) e = refl
+  line-counts p correct f allowed (decided i v) e = refl
+  line-counts p correct f allowed (crashed j) e =
+      let struck : crashesIn j (faultOf x p) ≡ true = crashed-by-fault x (suc (x .resilience)) p j e in
+      let none : false ≡ true = rw f at struck in
+      cc
+  line-counts p (crashes round point) f (one, last, _) (undecided v) e =
+      let ahead : suc (x .resilience) < round = undecided-before-fault x _ p v round point f one e in
+      absurd (let z : ⊥ = omega arith in z)
+  line-counts p (crashes round point) f (one, last, _) (decided i v) e =
+      let ahead : i < round = decided-before-fault x _ p i v round point f one e in
+      rw lt-ltb
+  line-counts p (crashes round point) f allowed (crashed j) e = refl
+
+  pub not-idle-crashed : (p : ℕ) → IsProcess x p → countsAsCrash (faultOf x p) (endOf x p) ≡ hasCrashed (endOf x p)
+  not-idle-crashed p process = line-counts p _ refl (formed .faults-allowed p (process .first) (process .last)) _ (sym (end-at x formed p process))
+
+  -- f is the number of processes that end crashed.
+  pub crashes-are-crashed : crashesOf x ≡ crashedCount (runOf x .states)
+  unfolding crashesOf faultOf endOf stateOf
+  crashes-are-crashed =
+      let as-many : length (runOf x .states) ≡ x .processes = states-at-end x formed in
+      count-by-process (x .pattern) (runOf x .states) (cc)
+      (λ k h. simp unary-clauses at (not-idle-crashed (suc k) (record { first = omega arith; last = omega arith })))
+
+  -- If processes 1 to m end crashed, f is at least m.
+  pub crashes-at-least : (m : ℕ) → m ≤ x .processes → ((p : ℕ) → 1 ≤ p → p ≤ m → hasCrashed (endOf x p) ≡ 1) → m ≤ crashesOf x
+  unfolding endOf stateOf
+  crashes-at-least m h ended =
+      let as-many : length (runOf x .states) ≡ x .processes = states-at-end x formed in
+      rw crashes-are-crashed (first-crashed m (runOf x .states) (omega arith) (λ k g. simp unary-clauses at (ended (suc k) (omega arith) (omega arith))))

@@ -1,0 +1,53 @@
+-- Termination and early decision (document 001, section 3.3, Lemma 3). While a process waits, every coordinator so far has crashed:
+-- so none waits for more than f + 1 rounds. For well-formed instances. Assumes nothing else.
+use mathlib.Core.Path.{_≡_, refl, _∙_}
+use Prim.Native.Nat.{ℕ, suc, _≤_, _<_}
+use native.Mathlib.Omega.{arith}
+use native.Mathlib.Nat.{lt-of-not-le}
+use Rattle.protocol.specs.Instance.{Instance}
+use Rattle.protocol.specs.Round.{State, undecided, decided, crashed}
+use Rattle.protocol.specs.Run.{crashesOf}
+use Rattle.protocol.specs.WellFormed.{WellFormed}
+use Rattle.protocol.specs.Consensus.{IsProcess, endOf, Decides, Termination, EarlyDecision}
+use Rattle.protocol.proofs.Pointwise.{stateAt}
+use Rattle.protocol.proofs.History.{undecided-earlier, crashed-later}
+use Rattle.protocol.proofs.Coordinator.{own-round-over, coordinator-crashed, decided-since}
+use Rattle.protocol.proofs.Counts.{crashes-le}
+use Rattle.protocol.proofs.CrashCount.{hasCrashed, crashed-is-one, not-idle-crashed, crashes-at-least}
+use Rattle.protocol.proofs.Ends.{end-at, decided-at}
+
+module _ (x : Instance) (formed : WellFormed x) where
+  -- A process that waits has its own round ahead of it.
+  waits-below : (m p v : ℕ) → 1 ≤ p → stateAt x m p ≡ undecided v → m < p
+  waits-below m p v one e = lt-of-not-le (λ (over : p ≤ m). own-round-over x m p v one over e)
+
+  -- If a process waits after m rounds, at least m processes crash: the coordinators so far.
+  pub waits-for-crashes : (m p v : ℕ) → m ≤ suc (x .resilience) → IsProcess x p → stateAt x m p ≡ undecided v → m ≤ crashesOf x
+  waits-for-crashes m p v h process e = crashes-at-least x formed m (omega arith) ended
+    where
+      ended : (k : ℕ) → 1 ≤ k → k ≤ m → hasCrashed (endOf x k) ≡ 1
+      ended k first within =
+          let above : m < p = waits-below m p v (process .first) e in
+          let (w, d) = undecided-earlier x k m p v within e in
+          let (j, c) = coordinator-crashed x formed k p w first (omega arith) (omega arith) (process .last) d in
+          let coordinator : IsProcess x k = record { first = first; last = omega arith } in
+          crashed-is-one _ j (end-at x formed k coordinator ∙ crashed-later x k _ k j (omega arith) c)
+
+  pub terminates : Termination x
+  unfolding Termination
+  terminates p process up = by-state (stateAt x (suc (x .resilience)) p) refl
+    where
+      at-end : endOf x p ≡ stateAt x (suc (x .resilience)) p
+      at-end = end-at x formed p process
+
+      by-state : (s : State) → stateAt x (suc (x .resilience)) p ≡ s → (r : ℕ) × (v : ℕ) × Decides x p r v
+      by-state (undecided v) e = absurd (let z : ⊥ = omega (arith, waits-for-crashes _ p v (omega arith) process e, crashes-le x formed) in z)
+      by-state (decided r v) e = (r, v, record { process = process; state = at-end ∙ e })
+      by-state (crashed j) e =
+          absurd (up (record { process = process; notIdle = not-idle-crashed x formed p process ∙ crashed-is-one _ j (at-end ∙ e) }))
+
+  pub decides-early : EarlyDecision x
+  unfolding EarlyDecision
+  decides-early p r v d =
+      let (q, u, same, within, waiting) = decided-since x _ p r v (decided-at x formed d) in
+      omega (arith, waits-for-crashes q p u (omega arith) (d .process) waiting)
