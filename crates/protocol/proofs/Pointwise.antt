@@ -32,7 +32,7 @@ length-states x (suc r) = length-mapFrom _ 1 (runTo x r .states) ∙ length-stat
 
 module _ (x : Instance) where
   -- Before round 1 every process holds its proposal.
-  initial-state : (p : ℕ) → 1 ≤ p → p ≤ length (x .proposals) → stateOf (initial x .states) p ≡ undecided (proposalOf x p)
+  pub initial-state : (p : ℕ) → 1 ≤ p → p ≤ length (x .proposals) → stateOf (initial x .states) p ≡ undecided (proposalOf x p)
   unfolding stateOf initial proposalOf
   initial-state p h g =
       let inside : p - 1 < length (map undecided (x .proposals)) = rw length-map (omega arith) in
@@ -40,7 +40,7 @@ module _ (x : Instance) where
       ∙ List·getD-map undecided (x .proposals) (p - 1) 0
 
   -- A round takes each process by itself.
-  round-state : (r p : ℕ) (states : List State) → 1 ≤ p → p ≤ length states
+  pub round-state : (r p : ℕ) (states : List State) → 1 ≤ p → p ≤ length states
       → stateOf (statesAfter x r states) p ≡ after r p (faultOf x p) (receivedIn x r (stateOf states r) p) (stateOf states p)
   unfolding stateOf statesAfter
   round-state r p states h g =

@@ -1,0 +1,47 @@
+-- The faults and states that the numbers of a table stand for, by cases. Assumes nothing.
+use mathlib.Core.Path.{_≡_, refl}
+use Prim.Native.Nat.{ℕ, _≤_}
+use mathlib.Core.Bool.{Bool, true, false, cond}
+use native.Mathlib.Omega.{arith}
+use lib.Dec.{eqb}
+use borrow.Author.Tests.{ne-eqb}
+use Rattle.protocol.specs.Instance.{Fault, correct, crashes, CrashPoint, pointFrom}
+use Rattle.protocol.specs.Round.{State, undecided, decided, crashed}
+use Rattle.protocol.specs.Count.{isUndecided}
+use Rattle.tables.specs.InstanceReading.{faultFrom}
+use Rattle.tables.specs.RunReading.{stateFrom}
+
+-- The fault of a crash round that is that of this round.
+pub crash-of-round : (r round step set count : ℕ) → 1 ≤ r → round ≡ r → faultFrom round step set count ≡ crashes r (pointFrom step set count)
+unfolding faultFrom
+crash-of-round r round step set count g e =
+    let positive : r ≡ 0 → ⊥ = λ z. omega arith in
+    rw e (simp ne-eqb)
+
+-- What holds of a correct process, and of one that crashes in this round, holds of the fault that the numbers stand for.
+pub any-fault : (round step set count : ℕ) (P : Fault → Type 0) → P correct → ((point : CrashPoint) → P (crashes round point)) → P (faultFrom round step set count)
+unfolding faultFrom
+any-fault round step set count P without crash = by-round (eqb round 0)
+  where
+    by-round : (b : Bool) → P (cond b correct (crashes round (pointFrom step set count)))
+    by-round true = without
+    by-round false = crash _
+
+-- What holds of each decided and each crashed state holds of the state that an end other than 0 stands for.
+pub any-ended : (end round value : ℕ) (P : State → Type 0) → ((k v : ℕ) → P (decided k v)) → ((k : ℕ) → P (crashed k)) → (end ≡ 0 → ⊥)
+    → P (stateFrom end round value)
+unfolding stateFrom
+any-ended end round value P one two h = simp ne-eqb (by-end (eqb end 1))
+  where
+    by-end : (b : Bool) → P (cond b (decided round value) (crashed round))
+    by-end true = one _ _
+    by-end false = two _
+
+-- An end of 0 is that of a process up and undecided.
+pub is-undecided : (end round value : ℕ) → end ≡ 0 → isUndecided (stateFrom end round value) ≡ true
+unfolding isUndecided stateFrom
+is-undecided end round value h = rw h
+
+pub not-undecided : (end round value : ℕ) → (end ≡ 0 → ⊥) → isUndecided (stateFrom end round value) ≡ false
+unfolding isUndecided
+not-undecided end round value h = any-ended end round value (λ (s : State). isUndecided s ≡ false) (λ k v. refl) (λ k. refl) h

@@ -1,0 +1,75 @@
+-- The count of the failure lines that are not idle, process by process: what has been counted, and what is left to count. Assumes nothing.
+use mathlib.Core.List.{List, [], _∷_}
+use mathlib.Core.Path.{_≡_, refl, sym, ap, _∙_}
+use Prim.Native.Nat.{ℕ, suc, _+_, _-_, _≤_, _<_}
+use native.Mathlib.Omega.{arith}
+use lib.ListN.{length, getD, drop, drop-of-length-le}
+use lib.Seq.{drop-cons}
+use Rattle.protocol.specs.Instance.{Fault, correct, crashes, faultOf}
+use Rattle.protocol.specs.Round.{State, crashed, stateOf}
+use Rattle.protocol.specs.Count.{isIdle, countsAsCrash, crashCount}
+use Rattle.protocol.proofs.Counts.{cond-le}
+use Rattle.tables.specs.declared.InstanceTable.{InstanceTable}
+use Rattle.tables.specs.declared.RunTable.{RunTable}
+use Rattle.tables.specs.InstanceReading.{instanceOf}
+use Rattle.tables.specs.RunReading.{statesIn}
+use Rattle.tables.proofs.Places.{length-statesIn}
+use Rattle.rounds.specs.declared.Entry.{Entry}
+use Rattle.rounds.specs.declared.FaultEntry.{FaultEntry}
+use Rattle.rounds.specs.Entries.{entryOf, faultEntryOf, entryState, entryFault}
+use Rattle.rounds.proofs.Reading.{pattern-length, fault-read, state-read}
+
+-- The faults and the states from process p on.
+abbrev restCount : List Fault → List State → ℕ → ℕ
+restCount faults states p = crashCount (drop (p - 1) faults) (drop (p - 1) states)
+
+-- The count from process p on is that of p and that from p + 1 on.
+count-one : (faults : List Fault) (states : List State) (p : ℕ) → 1 ≤ p → p ≤ length faults → p ≤ length states
+    → restCount faults states p ≡ countsAsCrash (getD faults (p - 1) correct) (getD states (p - 1) (crashed 0)) + restCount faults states (p + 1)
+unfolding crashCount
+count-one faults states p h g k =
+    let next : p + 1 - 1 ≡ suc (p - 1) = omega arith in
+    rw (next, drop-cons faults (p - 1) correct (omega arith), drop-cons states (p - 1) (crashed 0) (omega arith))
+
+count-none : (faults : List Fault) (states : List State) (p : ℕ) → length faults < p → restCount faults states p ≡ 0
+unfolding crashCount
+count-none faults states p h = rw (drop-of-length-le faults {i = p - 1} (omega arith))
+
+-- A failure line counts once at most.
+pub counts-once : (fault : Fault) (s : State) (k : ℕ) → k ≡ countsAsCrash fault s → k ≤ 1
+unfolding countsAsCrash
+counts-once correct s k e = omega arith
+counts-once (crashes round point) s k e = rw e (cond-le (isIdle round s) 0 1 1 (omega arith) (omega arith))
+
+-- f counts the processes below p.
+pub record CountedBelow (x : InstanceTable) (run : RunTable) (f p : ℕ) : Type 0 where
+  pub first : 1 ≤ p
+  pub last : p ≤ x .n + 1
+  pub at-most : f < p
+  pub rest : f + restCount (instanceOf x .pattern) (statesIn (x .n) run) p ≡ crashCount (instanceOf x .pattern) (statesIn (x .n) run)
+
+module _ (x : InstanceTable) (run : RunTable) where
+  pub counted-none : CountedBelow x run 0 1
+  counted-none = record { first = omega arith; last = omega arith; at-most = omega arith; rest = omega arith }
+
+  module _ (faults : length (x .rounds) ≡ 64) (limit : x .n ≤ 64) where
+    pub counted-all : (f p : ℕ) → CountedBelow x run f p → x .n < p → f ≡ crashCount (instanceOf x .pattern) (statesIn (x .n) run)
+    counted-all f p so-far h =
+        omega (arith, so-far .rest, count-none (instanceOf x .pattern) (statesIn (x .n) run) p (omega (arith, pattern-length x faults limit)))
+
+    -- One process more.
+    pub counted-more : length (run .ends) ≡ 64 → (f p k : ℕ) (fault : FaultEntry) (s : Entry) → CountedBelow x run f p → p ≤ x .n
+        → fault ≡ faultEntryOf x p → s ≡ entryOf run p → k ≡ countsAsCrash (entryFault fault) (entryState s) → CountedBelow x run (f + k) (p + 1)
+    unfolding faultOf stateOf
+    counted-more entries f p k fault s so-far h of-fault of-s of-k =
+        let size : length (statesIn (x .n) run) ≡ x .n = length-statesIn (x .n) run (omega arith) in
+        let its-fault = fault-read x faults limit p fault (omega arith) h of-fault in
+        let its-state = state-read (x .n) run entries limit p s (omega arith) h of-s in
+        let counts : k ≡ countsAsCrash (faultOf (instanceOf x) p) (stateOf (statesIn (x .n) run) p) = of-k ∙ rw (its-fault, its-state) in
+        let step = count-one (instanceOf x .pattern) (statesIn (x .n) run) p (omega arith) (omega (arith, pattern-length x faults limit)) (omega arith) in
+        record {
+          first = omega arith;
+          last = omega arith;
+          at-most = omega (arith, so-far .at-most, counts-once (entryFault fault) (entryState s) k of-k);
+          rest = omega (arith, so-far .rest, counts, step);
+        }

@@ -1,0 +1,11 @@
+pub mod Ones
+pub mod Cases
+pub mod Hearing
+pub mod Becoming
+pub mod Counting
+pub mod Reading
+pub mod Undecided
+pub mod Counted
+pub mod Underway
+pub mod Whole
+pub mod Crashes

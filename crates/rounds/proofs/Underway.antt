@@ -1,0 +1,129 @@
+-- A round on its way through the processes: those below p have gone through it, the others stand as the round began. What holds as it begins,
+-- after one process more and at the end. Assumes nothing.
+use mathlib.Core.List.{List}
+use mathlib.Core.Path.{_≡_, refl, sym, ap, _∙_}
+use Prim.Native.Nat.{ℕ, suc, _+_, _-_, _≤_, _<_}
+use native.Mathlib.Omega.{arith}
+use mathlib.Core.Bool.{Bool, true, false}
+use lib.Dec.{ltb}
+use borrow.Author.Tests.{ltb-true, ltb-false}
+use lib.ListN.{length, getD, set, length-set}
+use lib.Seq.{getD-set-same, getD-set-other}
+use Rattle.general.proofs.Indexed.{length-mapFrom}
+use Rattle.protocol.specs.Instance.{Instance, faultOf}
+use Rattle.protocol.specs.Round.{State, stateOf, received, after, statesAfter}
+use Rattle.protocol.proofs.Pointwise.{round-state}
+use Rattle.tables.specs.declared.InstanceTable.{InstanceTable}
+use Rattle.tables.specs.declared.RunTable.{RunTable}
+use Rattle.tables.specs.InstanceReading.{instanceOf}
+use Rattle.tables.specs.RunReading.{statesIn, runFrom}
+use Rattle.tables.proofs.Places.{fault-at, state-in, length-statesIn, states-ext}
+use Rattle.rounds.specs.declared.Entry.{Entry}
+use Rattle.rounds.specs.declared.FaultEntry.{FaultEntry}
+use Rattle.rounds.specs.Entries.{entryOf, faultEntryOf, withEntry, entryState, entryFault}
+use Rattle.rounds.specs.Halves.{withStates}
+use Rattle.rounds.proofs.Reading.{processes-of}
+
+-- The arrays of a run table have 64 places.
+pub record Sized (run : RunTable) : Type 0 where
+  pub ends : length (run .ends) ≡ 64
+  pub ended : length (run .ended) ≡ 64
+  pub values : length (run .values) ≡ 64
+
+-- What process q becomes in round r from its entry as the round began.
+abbrev pub becomes : InstanceTable → ℕ → RunTable → ℕ → State
+becomes x r run q =
+    after r q (entryFault (faultEntryOf x q)) (received (x .n) r (entryFault (faultEntryOf x r)) (entryState (entryOf run r)) q) (entryState (entryOf run q))
+
+pub record Underway (x : InstanceTable) (r : ℕ) (run now : RunTable) (p : ℕ) : Type 0 where
+  pub sized : Sized now
+  pub done : (q : ℕ) → 1 ≤ q → q < p → entryState (entryOf now q) ≡ becomes x r run q
+  pub left : (q : ℕ) → p ≤ q → entryOf now q ≡ entryOf run q
+  pub rounds : now .rounds ≡ run .rounds
+  pub speakers : now .speakers ≡ run .speakers
+  pub sent : now .sent ≡ run .sent
+  pub commits : now .commits ≡ run .commits
+
+pub begins : (x : InstanceTable) (r : ℕ) (run : RunTable) → Sized run → Underway x r run run 1
+begins x r run sized =
+    record {
+      sized = sized;
+      done = λ q h g. absurd (let z : ⊥ = omega arith in z);
+      left = λ q h. refl;
+      rounds = refl;
+      speakers = refl;
+      sent = refl;
+      commits = refl;
+    }
+
+-- Storing an entry: the entry of its process, and those of the others.
+entry-same : (run : RunTable) (p : ℕ) (s : Entry) → Sized run → p - 1 < 64 → entryOf (withEntry run p s) p ≡ s
+entry-same run p s sized h =
+    let ends : p - 1 < length (run .ends) = omega arith in
+    let ended : p - 1 < length (run .ended) = omega arith in
+    let values : p - 1 < length (run .values) = omega arith in
+    simp getD-set-same
+
+entry-other : (run : RunTable) (p q : ℕ) (s : Entry) → (q - 1 ≡ p - 1 → ⊥) → entryOf (withEntry run p s) q ≡ entryOf run q
+entry-other run p q s ne = simp getD-set-other
+
+sized-with : (run : RunTable) (p : ℕ) (s : Entry) → Sized run → Sized (withEntry run p s)
+sized-with run p s sized = record { ends = simp length-set (sized .ends); ended = simp length-set (sized .ended); values = simp length-set (sized .values) }
+
+-- One process more: p, which `becomes` this in the round.
+stored : (x : InstanceTable) (r : ℕ) (run now : RunTable) (p : ℕ) (s : Entry) → Underway x r run now p → 1 ≤ p → p ≤ 64
+    → entryState s ≡ becomes x r run p → Underway x r run (withEntry now p s) (p + 1)
+stored x r run now p s way h g e =
+    record {
+      sized = sized-with now p s (way .sized);
+      done = λ q a b. by-place q a b (ltb q p) refl;
+      left = λ q a. entry-other now p q s (λ same. omega arith) ∙ way .left q (omega arith);
+      rounds = way .rounds;
+      speakers = way .speakers;
+      sent = way .sent;
+      commits = way .commits;
+    }
+  where
+    by-place : (q : ℕ) → 1 ≤ q → q < p + 1 → (b : Bool) → ltb q p ≡ b → entryState (entryOf (withEntry now p s) q) ≡ becomes x r run q
+    by-place q a b true lt =
+        let below : q < p = ltb-true q p lt in
+        ap entryState (entry-other now p q s (λ same. omega arith)) ∙ way .done q a below
+    by-place q a b false ge =
+        let same : q ≡ p = omega (arith, ltb-false q p ge) in
+        rw same (ap entryState (entry-same now p s (way .sized) (omega arith)) ∙ e)
+
+-- The same, of what the code reads of the tables and stores.
+pub goes-on : (x : InstanceTable) (r : ℕ) (run now next : RunTable) (p : ℕ) (own fault : FaultEntry) (s c e : Entry) → Underway x r run now p
+    → 1 ≤ p → p ≤ 64 → fault ≡ faultEntryOf x r → c ≡ entryOf run r → own ≡ faultEntryOf x p → s ≡ entryOf now p
+    → entryState e ≡ after r p (entryFault own) (received (x .n) r (entryFault fault) (entryState c) p) (entryState s) → next ≡ withEntry now p e
+    → Underway x r run next (p + 1)
+goes-on x r run now next p own fault s c e way h g of-fault of-c of-own of-s becoming storing =
+    let still : s ≡ entryOf run p = of-s ∙ way .left p (omega arith) in
+    rw storing (stored x r run now p e way h g (becoming ∙ rw (of-fault, of-c, of-own, still)))
+
+module _ (x : InstanceTable) (r : ℕ) (run : RunTable) (h : 1 ≤ r) (g : r ≤ x .n) (fits : x .n ≤ 64) (faults : length (x .rounds) ≡ 64) (sized : Sized run) where
+  -- A round of the definitions, at process q, from the tables.
+  round-at : (q : ℕ) → 1 ≤ q → q ≤ x .n → stateOf (statesAfter (instanceOf x) r (statesIn (x .n) run)) q ≡ becomes x r run q
+  round-at q a b =
+      let places : x .n ≤ length (x .rounds) = omega arith in
+      let entries : x .n ≤ length (run .ends) = omega arith in
+      let size : length (statesIn (x .n) run) ≡ x .n = length-statesIn (x .n) run entries in
+      round-state (instanceOf x) r q (statesIn (x .n) run) a (omega arith)
+      ∙ rw (fault-at x q places a b, fault-at x r places h g, state-in (x .n) run r entries h g, state-in (x .n) run q entries a b, processes-of x)
+
+  -- All have gone through it.
+  pub ends : (now : RunTable) (p : ℕ) → Underway x r run now p → x .n < p → runFrom (x .n) now ≡ withStates (instanceOf x) r (runFrom (x .n) run)
+  unfolding runFrom withStates statesAfter
+  ends now p way above = rw (states, way .rounds, way .speakers, way .sent, way .commits)
+    where
+      entries : x .n ≤ length (run .ends)
+      entries = omega (arith, sized .ends)
+
+      entries-now : x .n ≤ length (now .ends)
+      entries-now = omega (arith, way .sized .ends)
+
+      states : statesIn (x .n) now ≡ statesAfter (instanceOf x) r (statesIn (x .n) run)
+      states =
+          states-ext (x .n) (statesIn (x .n) now) (statesAfter (instanceOf x) r (statesIn (x .n) run)) (length-statesIn (x .n) now entries-now)
+          (length-mapFrom _ 1 (statesIn (x .n) run) ∙ length-statesIn (x .n) run entries)
+          λ q a b. state-in (x .n) now q entries-now a b ∙ way .done q a (omega arith) ∙ sym (round-at q a b)

@@ -1,0 +1,106 @@
+-- The whole run: its start, one round more, and its end, early or not; over the tables. Assumes nothing.
+use mathlib.Core.List.{List, map}
+use mathlib.Core.Path.{_≡_, refl, sym, ap, _∙_}
+use mathlib.Core.Bool.{Bool, true, false}
+use Prim.Native.Nat.{ℕ, suc, _+_, _-_, _*_, _≤_, _<_}
+use native.Mathlib.Omega.{arith}
+use lib.ListN.{length, getD, take, replicate, length-map, length-take, length-replicate, getD-replicate}
+use lib.Seq.{getD-take, length-take-le}
+use Rattle.protocol.specs.Instance.{Instance}
+use Rattle.protocol.specs.Round.{State, undecided, stateOf}
+use Rattle.protocol.specs.Count.{anyUndecided}
+use Rattle.protocol.specs.Run.{Run, initial, withRound, runTo, runOf}
+use Rattle.protocol.specs.WellFormed.{WellFormed}
+use Rattle.protocol.proofs.Pointwise.{proposalOf, initial-state}
+use Rattle.protocol.proofs.Ended.{run-ended}
+use Rattle.protocol.proofs.Counts.{speakers-le, data-sent-le, commits-sent-le}
+use Rattle.tables.specs.declared.InstanceTable.{InstanceTable}
+use Rattle.tables.specs.declared.RunTable.{RunTable}
+use Rattle.tables.specs.InstanceReading.{instanceOf}
+use Rattle.tables.specs.RunReading.{stateFrom, statesIn, runFrom}
+use Rattle.tables.proofs.Places.{state-in, length-statesIn, states-ext}
+use Rattle.rounds.specs.RoundAllowed.{RoundAllowed}
+use Rattle.rounds.proofs.Reading.{processes-of, resilience-of, limits}
+
+-- A table whose ends and counts are 0 and whose values are the proposals is that of a run before round 1.
+module _ (x : InstanceTable) (run : RunTable) (limit : x .n ≤ 64) (proposals : length (x .values) ≡ 64) (entries : length (run .ends) ≡ 64)
+    (none-ended : (k : ℕ) → k < 64 → getD (run .ends) k 0 ≡ 0) (values : run .values ≡ x .values) where
+  proposals-length : length (instanceOf x .proposals) ≡ x .n
+  unfolding instanceOf
+  proposals-length = length-take-le (x .n) (x .values) (omega arith)
+
+  states-length : length (statesIn (x .n) run) ≡ x .n
+  states-length = length-statesIn (x .n) run (omega arith)
+
+  start-state : (p : ℕ) → 1 ≤ p → p ≤ x .n → stateOf (statesIn (x .n) run) p ≡ undecided (proposalOf (instanceOf x) p)
+  unfolding proposalOf instanceOf stateFrom
+  start-state p h g =
+      state-in (x .n) run p (omega arith) h g
+      ∙ rw (none-ended (p - 1) (omega arith), values, getD-take (x .n) (x .values) (p - 1) 0 (omega arith))
+
+  start-states : statesIn (x .n) run ≡ initial (instanceOf x) .states
+  unfolding initial
+  start-states =
+      states-ext (x .n) (statesIn (x .n) run) (initial (instanceOf x) .states) states-length (length-map (instanceOf x .proposals) undecided ∙ proposals-length)
+      λ p h g. start-state p h g ∙ sym (initial-state (instanceOf x) p h (omega (arith, proposals-length)))
+
+  pub starts : run .rounds ≡ 0 → run .speakers ≡ 0 → run .sent ≡ 0 → run .commits ≡ 0 → runFrom (x .n) run ≡ initial (instanceOf x)
+  unfolding runFrom initial
+  starts rounds speakers sent commits = rw (start-states, rounds, speakers, sent, commits)
+
+-- The run as round r begins, one of rounds 1 to t + 1 or the one after them.
+pub record AtRound (x : InstanceTable) (run : RunTable) (r : ℕ) : Type 0 where
+  pub well-formed : WellFormed (instanceOf x)
+  pub first : 1 ≤ r
+  pub last : r ≤ x .t + 2
+  pub so-far : runFrom (x .n) run ≡ runTo (instanceOf x) (r - 1)
+
+pub at-first-round : (x : InstanceTable) (run : RunTable) → WellFormed (instanceOf x) → runFrom (x .n) run ≡ initial (instanceOf x) → AtRound x run 1
+unfolding runTo
+at-first-round x run w e = record { well-formed = w; first = omega arith; last = omega arith; so-far = e }
+
+module _ (x : InstanceTable) (run : RunTable) (r : ℕ) (now : AtRound x run r) where
+  pub round-allowed : r ≤ x .t + 1 → RoundAllowed (x .n) r run
+  unfolding runFrom
+  round-allowed g =
+      let w = now .well-formed in
+      let speakers : run .speakers ≡ runTo (instanceOf x) (r - 1) .speakers = ap (λ (known : Run). known .speakers) (now .so-far) in
+      let sent : run .sent ≡ runTo (instanceOf x) (r - 1) .dataSent = ap (λ (known : Run). known .dataSent) (now .so-far) in
+      let commits : run .commits ≡ runTo (instanceOf x) (r - 1) .commitsSent = ap (λ (known : Run). known .commitsSent) (now .so-far) in
+      let inside : r - 1 ≤ instanceOf x .processes = rw processes-of (omega (arith, limits x w)) in
+      record {
+        first = now .first;
+        last = omega (arith, limits x w);
+        at-most-64 = limits x w .1;
+        speakers = omega (arith, limits x w, speakers-le (instanceOf x) (r - 1));
+        sent = omega (arith, limits x w, data-sent-le (instanceOf x) w (r - 1) inside);
+        commits = omega (arith, limits x w, commits-sent-le (instanceOf x) w (r - 1) inside);
+      }
+
+  pub at-next-round : (next : RunTable) → r ≤ x .t + 1 → runFrom (x .n) next ≡ withRound (instanceOf x) r (runFrom (x .n) run) → AtRound x next (r + 1)
+  unfolding runTo
+  at-next-round next g e =
+      let number : r + 1 - 1 ≡ suc (r - 1) = omega arith in
+      let same : suc (r - 1) ≡ r = omega arith in
+      record {
+        well-formed = now .well-formed;
+        first = omega arith;
+        last = omega arith;
+        so-far = rw number (e ∙ rw (now .so-far, same));
+      }
+
+  -- A run that has ended before its last round.
+  pub ended-early : (b : Bool) → b ≡ anyUndecided (statesIn (x .n) run) → b ≡ false → r ≤ x .t + 1 → runFrom (x .n) run ≡ runOf (instanceOf x)
+  unfolding runFrom runOf
+  ended-early b e n g =
+      let none : anyUndecided (runTo (instanceOf x) (r - 1) .states) ≡ false =
+      ap (λ (known : Run). anyUndecided (known .states)) (sym (now .so-far)) ∙ sym e ∙ n
+      in
+      now .so-far ∙ sym (run-ended (instanceOf x) (r - 1) (suc (instanceOf x .resilience)) none (rw resilience-of (omega arith)))
+
+  -- A run that has had all its rounds.
+  pub ended-late : x .t + 1 < r → runFrom (x .n) run ≡ runOf (instanceOf x)
+  unfolding runOf
+  ended-late g =
+      let last : r - 1 ≡ suc (instanceOf x .resilience) = rw resilience-of (omega arith) in
+      now .so-far ∙ ap (runTo (instanceOf x)) last

@@ -1,0 +1,57 @@
+-- What the small structs stand for that the functions on one process hand over, and the numbers for what a process hears.
+use Prim.Native.Nat.{ℕ, _-_}
+use mathlib.Core.Bool.{true, cond}
+use lib.Dec.{eqb}
+use lib.ListN.{getD, set}
+use Rattle.protocol.specs.Message.{Messages, Reach, none, dataOnly, all, arriving}
+use Rattle.protocol.specs.Instance.{Fault}
+use Rattle.protocol.specs.Transition.{sends}
+use Rattle.protocol.specs.Round.{State}
+use Rattle.tables.specs.declared.InstanceTable.{InstanceTable}
+use Rattle.tables.specs.declared.RunTable.{RunTable}
+use Rattle.tables.specs.InstanceReading.{faultFrom}
+use Rattle.tables.specs.RunReading.{stateFrom}
+use Rattle.rounds.specs.declared.Entry.{Entry}
+use Rattle.rounds.specs.declared.FaultEntry.{FaultEntry}
+
+-- The entries of process p in the tables.
+abbrev pub entryOf : RunTable → ℕ → Entry
+entryOf run p = record { end = getD (run .ends) (p - 1) 0; ended = getD (run .ended) (p - 1) 0; value = getD (run .values) (p - 1) 0 }
+
+abbrev pub faultEntryOf : InstanceTable → ℕ → FaultEntry
+faultEntryOf x p =
+    record {
+      round = getD (x .rounds) (p - 1) 0;
+      step = getD (x .steps) (p - 1) 0;
+      reached = getD (x .sets) (p - 1) 0;
+      count = getD (x .counts) (p - 1) 0;
+    }
+
+-- The run table with this entry for process p.
+abbrev pub withEntry : RunTable → ℕ → Entry → RunTable
+withEntry run p s =
+    record {
+      ends = set (run .ends) (p - 1) (s .end);
+      ended = set (run .ended) (p - 1) (s .ended);
+      values = set (run .values) (p - 1) (s .value);
+      rounds = run .rounds;
+      speakers = run .speakers;
+      sent = run .sent;
+      commits = run .commits;
+    }
+
+-- A process's entry of a run table: its state.
+abbrev pub entryState : Entry → State
+entryState s = stateFrom (s .end) (s .ended) (s .value)
+
+-- A process's entry of an instance table: its fault.
+abbrev pub entryFault : FaultEntry → Fault
+entryFault fault = faultFrom (fault .round) (fault .step) (fault .reached) (fault .count)
+
+-- How far the messages to one process get: 0 no message, 1 the data message, 2 the commit too (document 01, 'A round').
+unfoldable pub reachFrom : ℕ → Reach
+reachFrom code = cond (eqb code 0) none (cond (eqb code 1) dataOnly all)
+
+-- What a process hears of a coordinator that sends this value: nothing, data, or data then commit.
+unfoldable pub messagesFrom : (code value : ℕ) → Messages
+messagesFrom code value = arriving (reachFrom code) (sends true value)

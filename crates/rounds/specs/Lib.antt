@@ -1,0 +1,4 @@
+pub mod Entries
+pub mod Reached
+pub mod Halves
+pub mod RoundAllowed

@@ -1,0 +1,96 @@
+// What one process hears in a round, and what it becomes. Numbers alone: no table.
+ghost use mathlib.Core.Path.{_≡_};
+ghost use Prim.Native.Nat.{_≤_};
+ghost use mathlib.Core.Bool.{Bool};
+ghost use Rattle.general.specs.Bits.{member};
+ghost use Rattle.protocol.specs.Instance.{pointFrom};
+ghost use Rattle.protocol.specs.Delivery.{reachAt, reach};
+ghost use Rattle.protocol.specs.Round.{received, after};
+ghost use Rattle.rounds.specs.Entries.{entryState, entryFault, reachFrom, messagesFrom};
+
+use crate::Entry;
+use crate::FaultEntry;
+
+// Whether process p is in a set: bit p - 1, by shift.
+pub fn is_member(p: u8, set: u64) -> bool
+    requires { ⌜ (1 ≤ p) × (p ≤ 64) ⌝ }
+    ensures { λ b. ⌜ b ≡ member p set ⌝ }
+{
+    (set >> (p - 1)) % 2 == 1
+}
+
+// How far the messages to process p get of a coordinator that crashes at this point.
+pub fn reach_at(n: u8, fault: FaultEntry, p: u8) -> u8
+    requires { ⌜ (1 ≤ p) × (p ≤ n) × (n ≤ 64) ⌝ }
+    ensures { λ code. ⌜ reachFrom code ≡ reachAt n (pointFrom (fault .step) (fault .reached) (fault .count)) p ⌝ }
+{
+    if fault.step == 0 {
+        return 0;
+    }
+    if fault.step == 1 {
+        if is_member(p, fault.reached) {
+            return 1;
+        }
+        return 0;
+    }
+    if (n as u16) < (p as u16) + (fault.count as u16) {
+        return 2;
+    }
+    1
+}
+
+// How far the messages of coordinator r to process p get.
+pub fn reach_to(n: u8, r: u8, fault: FaultEntry, p: u8) -> u8
+    requires { ⌜ (1 ≤ r) × (1 ≤ p) × (p ≤ n) × (n ≤ 64) ⌝ }
+    ensures { λ code. ⌜ reachFrom code ≡ reach n (entryFault fault) r p ⌝ }
+{
+    if p <= r {
+        return 0;
+    }
+    if fault.round == r {
+        return reach_at(n, fault, p);
+    }
+    2
+}
+
+// What process p hears in round r of the coordinator, which has this fault and began the round in the state c.
+pub fn heard(n: u8, r: u8, fault: FaultEntry, c: Entry, p: u8) -> u8
+    requires { ⌜ (1 ≤ r) × (1 ≤ p) × (p ≤ n) × (n ≤ 64) ⌝ }
+    ensures { λ code. ⌜ messagesFrom code (c .value) ≡ received n r (entryFault fault) (entryState c) p ⌝ }
+{
+    if c.end == 0 {
+        return reach_to(n, r, fault, p);
+    }
+    0
+}
+
+// What process p, with the fault `own`, becomes in round r on hearing this of the coordinator's value.
+pub fn on_hearing(r: u8, p: u8, own: FaultEntry, code: u8, value: u32, s: Entry) -> Entry
+    requires { ⌜ 1 ≤ r ⌝ }
+    ensures { λ e. ⌜ entryState e ≡ after r p (entryFault own) (messagesFrom code value) (entryState s) ⌝ }
+{
+    if s.end != 0 {
+        return s;
+    }
+    if own.round == r {
+        return Entry { end: 2, ended: r, value: 0 };
+    }
+    if p == r {
+        return Entry { end: 1, ended: r, value: s.value };
+    }
+    if code == 0 {
+        return s;
+    }
+    if code == 1 {
+        return Entry { end: 0, ended: 0, value: value };
+    }
+    Entry { end: 1, ended: r, value: value }
+}
+
+// What process p becomes in round r: `own` and s are its fault and state, `fault` and c the coordinator's.
+pub fn after_round(n: u8, r: u8, p: u8, own: FaultEntry, s: Entry, fault: FaultEntry, c: Entry) -> Entry
+    requires { ⌜ (1 ≤ r) × (1 ≤ p) × (p ≤ n) × (n ≤ 64) ⌝ }
+    ensures { λ e. ⌜ entryState e ≡ after r p (entryFault own) (received n r (entryFault fault) (entryState c) p) (entryState s) ⌝ }
+{
+    on_hearing(r, p, own, heard(n, r, fault, c, p), c.value, s)
+}

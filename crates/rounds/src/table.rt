@@ -1,0 +1,49 @@
+// A process's entries in the tables.
+ghost use mathlib.Core.Path.{_≡_};
+ghost use Prim.Native.Nat.{_≤_};
+ghost use Rattle.rounds.specs.Entries.{entryOf, faultEntryOf, withEntry};
+
+use tables::InstanceTable;
+use tables::RunTable;
+use crate::Entry;
+use crate::FaultEntry;
+
+// The fault of process p.
+pub fn fault_of(x: InstanceTable, p: u8) -> FaultEntry
+    requires { ⌜ (1 ≤ p) × (p ≤ 64) ⌝ }
+    ensures { λ fault. ⌜ fault ≡ faultEntryOf x p ⌝ }
+{
+    let i = (p - 1) as usize;
+    FaultEntry {
+        round: x.rounds[i],
+        step: x.steps[i],
+        reached: x.sets[i],
+        count: x.counts[i],
+    }
+}
+
+// The state of process p.
+pub fn entry_of(run: RunTable, p: u8) -> Entry
+    requires { ⌜ (1 ≤ p) × (p ≤ 64) ⌝ }
+    ensures { λ s. ⌜ s ≡ entryOf run p ⌝ }
+{
+    let i = (p - 1) as usize;
+    Entry {
+        end: run.ends[i],
+        ended: run.ended[i],
+        value: run.values[i],
+    }
+}
+
+// The table with another state of process p.
+pub fn with_entry(run: RunTable, p: u8, s: Entry) -> RunTable
+    requires { ⌜ (1 ≤ p) × (p ≤ 64) ⌝ }
+    ensures { λ result. ⌜ result ≡ withEntry run p s ⌝ }
+{
+    let i = (p - 1) as usize;
+    let mut next = run;
+    next.ends[i] = s.end;
+    next.ended[i] = s.ended;
+    next.values[i] = s.value;
+    next
+}
