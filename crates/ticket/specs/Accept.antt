@@ -1,6 +1,6 @@
 -- The lines of a ticket in their order, and which refusal a wrong one gets (document 01, 'The ticket' and 'Refused calls', refusals 3 to 8).
 use mathlib.Core.List.{List, [], _∷_, _++_}
-use Prim.Native.Nat.{ℕ, suc, _+_, _-_, _%_, _^_}
+use Prim.Native.Nat.{ℕ, suc, _-_, _%_, _^_}
 use mathlib.Core.Bool.{Bool, cond, not, _&&_}
 use lib.Dec.{eqb, ltb, leb}
 use lib.ListN.{length, getD, take, drop, set, replicate}
@@ -65,10 +65,10 @@ failureLine b =
     }
 
 -- Refusal 7: station in 1 to n and rising, round in 1 to t + 1, step at most 02.
-unfoldable pub placesCrash : Instance → ℕ → FailureLine → Bool
-placesCrash x last l =
-    leb 1 (l .process) && leb (l .process) (x .processes) && ltb last (l .process)
-    && leb 1 (l .round) && leb (l .round) (suc (x .resilience)) && leb (l .step) 2
+unfoldable pub placesCrash : ℕ → ℕ → ℕ → FailureLine → Bool
+placesCrash n t last l =
+    leb 1 (l .process) && leb (l .process) n && ltb last (l .process)
+    && leb 1 (l .round) && leb (l .round) (suc t) && leb (l .step) 2
 
 -- A set of processes all above p and at most n: bit j - 1 stands for process j, so no bit below bit p, and none from bit n on.
 unfoldable pub allBetween : ℕ → ℕ → ℕ → Bool
@@ -96,7 +96,7 @@ withCrash x l =
 unfoldable pub acceptCrash : Instance → ℕ → ℕ → FailureLine → Step Stage
 acceptCrash x lines last l =
     cond (leb (x .resilience) lines) (refuse 6)
-    (cond (not (placesCrash x last l)) (refuse 7)
+    (cond (not (placesCrash (x .processes) (x .resilience) last l)) (refuse 7)
     (cond (not (suitsStep (x .processes) l)) (refuse 8)
     (next (failures (withCrash x l) (suc lines) (l .process)))))
 

@@ -1,3 +1,5 @@
 pub mod Reading
 pub mod Accept
 pub mod Ticket
+pub mod Progress
+pub mod Answer

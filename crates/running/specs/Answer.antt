@@ -1,0 +1,26 @@
+-- What running and settling answer, in document 01's numbers, and what they promise.
+use mathlib.Core.List.{List}
+use mathlib.Core.Path.{_≡_}
+use Prim.Native.Nat.{ℕ}
+use lib.ListN.{length}
+use Rattle.ticket.specs.Reading.{Reading, accepted, refused}
+use Rattle.running.specs.declared.RunAnswer.{RunAnswer}
+use Rattle.running.specs.declared.RunAnswer.the-variants.{Written, Refused}
+use Rattle.running.specs.declared.SettleAnswer.{SettleAnswer}
+use Rattle.running.specs.declared.SettleAnswer.the-variants.{Round, Unsettled}
+use Rattle.running.specs.Running.{running, bufferAfter}
+
+-- The answer of running: how many bytes the result has, or the refusal with its line.
+unfoldable pub answerOf : Reading (List ℕ) → RunAnswer
+answerOf (accepted result) = Written (length result)
+answerOf (refused number line) = Refused number line
+
+-- Running a text into a buffer that held `before` gives this answer and leaves `after`.
+pub record Ran (text before after : List ℕ) (answer : RunAnswer) : Type 0 where
+  pub answered : answer ≡ answerOf (running text (length before))
+  pub buffer : after ≡ bufferAfter (running text (length before)) before
+
+-- What an answer of settling says: a round, or a refusal with its line.
+unfoldable pub settlingOf : SettleAnswer → Reading ℕ
+settlingOf (Round r) = accepted r
+settlingOf (Unsettled number line) = refused number line

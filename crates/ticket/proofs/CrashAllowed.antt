@@ -1,0 +1,94 @@
+-- A failure line that refusals 7 and 8 let pass states a fault that is allowed; and one line more states at most one fault more. Assumes nothing.
+use mathlib.Core.List.{List, [], _∷_}
+use mathlib.Core.Path.{_≡_, refl}
+use mathlib.Core.Bool.{Bool, true, false, cond, _&&_}
+use Prim.Native.Nat.{ℕ, zero, suc, _-_, _≤_, _<_}
+use native.Mathlib.Omega.{arith}
+use lib.Dec.{eqb, leb}
+use lib.ListN.{length, getD, set, replicate}
+use lib.Seq.{getD-set-same, getD-set-other}
+use borrow.Author.Tests.{ltb-true, leb-true, eqb-true, eqb-false}
+use Rattle.protocol.specs.Instance.{Fault, correct, crashes, beforeSending, duringData, duringCommits, pointFrom, withinLimits}
+use Rattle.protocol.specs.WellFormed.{PointAllowed, FaultAllowed, faultCount}
+use Rattle.ticket.specs.Accept.{FailureLine, placesCrash, allBetween, suitsStep}
+
+-- Two tests that hold together hold each.
+pub both : (a b : Bool) → (a && b) ≡ true → (a ≡ true) × (b ≡ true)
+both true true e = (refl, refl)
+both true false e = absurd (let z : _≡_ {A = ℕ} 0 1 = cc in omega arith)
+both false b e = absurd (let z : _≡_ {A = ℕ} 0 1 = cc in omega arith)
+
+-- Refusal 4 lets pass 1 ≤ n ≤ 64 and t < n.
+pub limits-hold : (n t : ℕ) → withinLimits n t ≡ true → (1 ≤ n) × (n ≤ 64) × (t < n)
+unfolding withinLimits
+limits-hold n t e =
+    let outer = both _ _ e in
+    let inner = both _ _ (outer .0) in
+    (leb-true _ _ (inner .0), leb-true _ _ (inner .1), ltb-true _ _ (outer .1))
+
+-- Refusal 8 at each step, as the two tests of the step turn out.
+point-allowed : (n p round reached count : ℕ) (atZero atOne : Bool)
+    → cond atZero (eqb reached 0 && eqb count 0)
+    (eqb round p && cond atOne (allBetween p n reached && eqb count 0) (eqb reached 0 && leb count (n - p))) ≡ true
+    → p ≤ n → PointAllowed n p round (cond atZero beforeSending (cond atOne (duringData reached) (duringCommits count)))
+unfolding PointAllowed allBetween
+point-allowed n p round reached count true atOne e h = tt
+point-allowed n p round reached count false true e h =
+    let outer = both _ _ e in
+    let between = both _ _ (both _ _ (outer .1) .0) in
+    (eqb-true _ _ (outer .0), eqb-true _ _ (between .0), ltb-true _ _ (between .1))
+point-allowed n p round reached count false false e h =
+    let outer = both _ _ e in
+    let few : count ≤ n - p = leb-true _ _ (both (eqb reached 0) _ (outer .1) .1) in
+    (eqb-true _ _ (outer .0), omega arith)
+
+module _ (n t last : ℕ) (l : FailureLine) (placed : placesCrash n t last l ≡ true) where
+  -- Refusal 7 lets pass a process, a round and a step within their limits.
+  pub crash-placed : (1 ≤ l .process) × (l .process ≤ n) × (1 ≤ l .round) × (l .round ≤ suc t)
+  unfolding placesCrash
+  crash-placed =
+      let steps = both _ _ placed in
+      let rounds = both _ _ (steps .0) in
+      let first = both _ _ (rounds .0) in
+      let rising = both _ _ (first .0) in
+      let inside = both _ _ (rising .0) in
+      (leb-true _ _ (inside .0), leb-true _ _ (inside .1), leb-true _ _ (first .1), leb-true _ _ (rounds .1))
+
+  -- Refusals 7 and 8 let pass a fault that is allowed.
+  pub crash-allowed : suitsStep n l ≡ true
+      → FaultAllowed n t (l .process) (crashes (l .round) (pointFrom (l .step) (l .reached) (l .count)))
+  unfolding suitsStep FaultAllowed pointFrom
+  crash-allowed e = (
+    crash-placed .2,
+    crash-placed .3,
+    point-allowed n (l .process) (l .round) (l .reached) (l .count) (eqb (l .step) 0) (eqb (l .step) 1) e (crash-placed .1),
+  )
+
+-- A fault that is stated where there was another adds at most one.
+pub count-set : (faults : List Fault) (i : ℕ) (fault : Fault) → faultCount (set faults i fault) ≤ suc (faultCount faults)
+unfolding faultCount
+count-set [] i fault = omega arith
+count-set (correct ∷ faults) zero correct = omega arith
+count-set (correct ∷ faults) zero (crashes round point) = omega arith
+count-set (crashes r q ∷ faults) zero correct = omega arith
+count-set (crashes r q ∷ faults) zero (crashes round point) = omega arith
+count-set (correct ∷ faults) (suc i) fault = count-set faults i fault
+count-set (crashes r q ∷ faults) (suc i) fault = let less = count-set faults i fault in omega arith
+
+-- No fault is stated where every process is correct.
+pub count-none : (n : ℕ) → faultCount (replicate n correct) ≡ 0
+unfolding faultCount
+count-none zero = refl
+count-none (suc n) = count-none n
+
+-- What holds of each process's fault, and of a new one, holds with the new one in its place.
+pub allowed-set : (P : ℕ → Fault → Type 0) (faults : List Fault) (q : ℕ) (fault : Fault) (p : ℕ) → 1 ≤ q → 1 ≤ p → p ≤ length faults
+    → P q fault → P p (getD faults (p - 1) correct) → P p (getD (set faults (q - 1) fault) (p - 1) correct)
+allowed-set P faults q fault p h g k new old = choose (eqb p q) refl
+  where
+    choose : (same : Bool) → eqb p q ≡ same → P p (getD (set faults (q - 1) fault) (p - 1) correct)
+    choose true e = let at : p ≡ q = eqb-true _ _ e in rw (at, getD-set-same faults (q - 1) fault correct (omega arith)) new
+    choose false e =
+        let other : p ≡ q → ⊥ = eqb-false _ _ e in
+        let apart : p - 1 ≡ q - 1 → ⊥ = λ z. other (omega arith) in
+        rw (getD-set-other faults (q - 1) (p - 1) fault correct apart) old

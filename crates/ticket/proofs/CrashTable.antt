@@ -1,0 +1,99 @@
+-- A failure line that is stored in the table, read as the instance with that failure line. Assumes nothing.
+use mathlib.Core.List.{List}
+use mathlib.Core.Path.{_≡_, refl, sym, ap, _∙_}
+use mathlib.Core.Bool.{Bool, true, false}
+use Prim.Native.Nat.{ℕ, suc, _-_, _≤_, _<_}
+use native.Mathlib.Omega.{arith}
+use lib.Dec.{eqb}
+use lib.ListN.{length, getD, take, set, length-take, length-set}
+use lib.Seq.{getD-set-same, getD-set-other, ext-getD}
+use borrow.Author.Tests.{eqb-true, eqb-false, ne-eqb}
+use Rattle.general.proofs.Indexed.{length-mapFrom}
+use Rattle.protocol.specs.Instance.{Fault, correct, crashes, pointFrom, faultOf}
+use Rattle.tables.specs.InstanceReading.{faultFrom, faultIn, instanceOf}
+use Rattle.tables.specs.declared.InstanceTable.{InstanceTable}
+use Rattle.tables.proofs.Places.{fault-at}
+use Rattle.ticket.specs.Accept.{FailureLine, withCrash}
+
+-- The table with a failure line at the place of its process.
+abbrev pub stored : InstanceTable → FailureLine → InstanceTable
+stored x l =
+    record {
+      n = x .n;
+      t = x .t;
+      values = x .values;
+      rounds = set (x .rounds) (l .process - 1) (l .round);
+      steps = set (x .steps) (l .process - 1) (l .step);
+      sets = set (x .sets) (l .process - 1) (l .reached);
+      counts = set (x .counts) (l .process - 1) (l .count);
+    }
+
+-- Every array of the table has a place for each process.
+pub record Roomy (x : InstanceTable) : Type 0 where
+  pub for-rounds : x .n ≤ length (x .rounds)
+  pub for-steps : x .n ≤ length (x .steps)
+  pub for-sets : x .n ≤ length (x .sets)
+  pub for-counts : x .n ≤ length (x .counts)
+
+length-pattern : (x : InstanceTable) → x .n ≤ length (x .rounds) → length (instanceOf x .pattern) ≡ x .n
+unfolding instanceOf
+length-pattern x h = length-mapFrom (faultIn x) 1 (take (x .n) (x .rounds)) ∙ length-take (x .n) (x .rounds) ∙ omega arith
+
+-- What a failure line says of its process.
+abbrev faultBy : FailureLine → Fault
+faultBy l = crashes (l .round) (pointFrom (l .step) (l .reached) (l .count))
+
+module _ (x : InstanceTable) (l : FailureLine) (roomy : Roomy x) (h : 1 ≤ l .process) (g : l .process ≤ x .n) (r : 1 ≤ l .round) where
+  fits : x .n ≤ length (stored x l .rounds)
+  fits = rw length-set (roomy .for-rounds)
+
+  fault-stated : faultOf (instanceOf (stored x l)) (l .process) ≡ faultBy l
+  unfolding faultFrom
+  fault-stated =
+      let some : l .round ≡ 0 → ⊥ = λ e. omega arith in
+      fault-at (stored x l) (l .process) fits h g
+      ∙ rw (
+        getD-set-same (x .rounds) (l .process - 1) (l .round) 0 (omega arith),
+        getD-set-same (x .steps) (l .process - 1) (l .step) 0 (omega arith),
+        getD-set-same (x .sets) (l .process - 1) (l .reached) 0 (omega arith),
+        getD-set-same (x .counts) (l .process - 1) (l .count) 0 (omega arith),
+        ne-eqb (l .round) 0 some,
+      )
+
+  fault-kept : (p : ℕ) → 1 ≤ p → p ≤ x .n → (p ≡ l .process → ⊥) → faultOf (instanceOf (stored x l)) p ≡ faultOf (instanceOf x) p
+  fault-kept p hp gp other =
+      let apart : p - 1 ≡ l .process - 1 → ⊥ = λ e. other (omega arith) in
+      fault-at (stored x l) p fits hp gp
+      ∙ rw (
+        getD-set-other (x .rounds) (l .process - 1) (p - 1) (l .round) 0 apart,
+        getD-set-other (x .steps) (l .process - 1) (p - 1) (l .step) 0 apart,
+        getD-set-other (x .sets) (l .process - 1) (p - 1) (l .reached) 0 apart,
+        getD-set-other (x .counts) (l .process - 1) (p - 1) (l .count) 0 apart,
+      )
+      (sym (fault-at x p (roomy .for-rounds) hp gp))
+
+  same-at : (j : ℕ) → j < x .n → getD (instanceOf (stored x l) .pattern) j correct ≡ getD (set (instanceOf x .pattern) (l .process - 1) (faultBy l)) j correct
+  unfolding faultOf
+  same-at j k = choose (eqb (suc j) (l .process)) refl
+    where
+      here : suc j - 1 ≡ j
+      here = omega arith
+
+      choose : (own : Bool) → eqb (suc j) (l .process) ≡ own
+          → getD (instanceOf (stored x l) .pattern) j correct ≡ getD (set (instanceOf x .pattern) (l .process - 1) (faultBy l)) j correct
+      choose true e =
+          let own : suc j ≡ l .process = eqb-true _ _ e in
+          let at : j ≡ l .process - 1 = omega arith in
+          rw at (fault-stated ∙ sym (getD-set-same (instanceOf x .pattern) (l .process - 1) (faultBy l) correct (rw (length-pattern x (roomy .for-rounds)) (omega arith))))
+      choose false e =
+          let other : suc j ≡ l .process → ⊥ = eqb-false _ _ e in
+          let apart : j ≡ l .process - 1 → ⊥ = λ at. other (omega arith) in
+          let kept = fault-kept (suc j) (omega arith) k other in
+          rw (getD-set-other (instanceOf x .pattern) (l .process - 1) j (faultBy l) correct apart) (rw here at kept)
+
+  pub crash-stored : instanceOf (stored x l) ≡ withCrash (instanceOf x) l
+  unfolding withCrash instanceOf
+  crash-stored =
+      ap (λ (m : List Fault). record { processes = x .n; resilience = x .t; proposals = take (x .n) (x .values); pattern = m })
+      (ext-getD correct _ _ (length-pattern (stored x l) fits ∙ sym (length-set (instanceOf x .pattern) (l .process - 1) (faultBy l) ∙ length-pattern x (roomy .for-rounds)))
+      (λ j k. same-at j (rw (length-pattern (stored x l) fits) at k)))

@@ -1,0 +1,49 @@
+-- A property of stages that every line keeps holds of what a text is accepted with, whatever the format. Assumes nothing.
+use mathlib.Core.List.{List, [], _∷_}
+use mathlib.Core.Path.{_≡_, refl}
+use mathlib.Core.Bool.{Bool, true, false, cond, not}
+use Prim.Native.Nat.{ℕ, suc}
+use Rattle.lines.specs.Line.{Line, bytes, noLine}
+use Rattle.ticket.specs.Reading.{Reading, accepted, refused, Step, next, refuse, proceed, readFrom}
+use Rattle.ticket.proofs.LineBytes.{Bytes, Lines}
+
+-- The next stage, if there is one, has the property.
+unfoldable pub Keeps : {S : Type 0} → (S → Type 0) → Step S → Type 0
+Keeps P (next s) = P s
+Keeps P (refuse number) = Unit {0}
+
+-- What a text is accepted with, if it is, has the property.
+unfoldable pub Gives : {A : Type 0} → (A → Type 0) → Reading A → Type 0
+Gives Q (accepted a) = Q a
+Gives Q (refused number k) = Unit {0}
+
+module _ {S : Type 0} (P : S → Type 0) where
+  -- A line is refused unless a test holds.
+  pub keeps-if : (test : Bool) (number : ℕ) (step : Step S) → (test ≡ true → Keeps P step) → Keeps P (cond (not test) (refuse number) step)
+  unfolding Keeps
+  keeps-if true number step h = h refl
+  keeps-if false number step h = tt
+
+  -- A line is refused if a test holds.
+  pub keeps-unless : (test : Bool) (number : ℕ) (step : Step S) → (test ≡ false → Keeps P step) → Keeps P (cond test (refuse number) step)
+  unfolding Keeps
+  keeps-unless true number step h = tt
+  keeps-unless false number step h = h refl
+
+  pub keeps-either : (test : Bool) (step other : Step S) → Keeps P step → Keeps P other → Keeps P (cond test step other)
+  keeps-either true step other h g = h
+  keeps-either false step other h g = g
+
+module _ {S A : Type 0} (accept : S → List ℕ → Step S) (end : S → ℕ → Reading A) (P : S → Type 0) (Q : A → Type 0)
+    (keeps : (s : S) (b : List ℕ) → Bytes b → P s → Keeps P (accept s b)) (ends : (s : S) (k : ℕ) → P s → Gives Q (end s k)) where
+  proceed-gives : (step : Step S) (k : ℕ) (go : S → Reading A) → Keeps P step → ((s : S) → P s → Gives Q (go s)) → Gives Q (proceed step k go)
+  unfolding Keeps Gives proceed
+  proceed-gives (next s) k go h g = g s h
+  proceed-gives (refuse number) k go h g = tt
+
+  pub reading-gives : (lines : List Line) (s : S) (k : ℕ) → Lines lines → P s → Gives Q (readFrom accept end s k lines)
+  unfolding readFrom Lines Gives
+  reading-gives [] s k h g = ends s k g
+  reading-gives (noLine ∷ lines) s k h g = tt
+  reading-gives (bytes b ∷ lines) s k h g =
+      proceed-gives (accept s b) k _ (keeps s b (h .0) g) (λ (s′ : S) (g′ : P s′). reading-gives lines s′ (suc k) (h .1) g′)

@@ -1,0 +1,11 @@
+pub mod LineBytes
+pub mod Keeping
+pub mod CrashAllowed
+pub mod WellFormed
+pub mod Sets
+pub mod CheckAnswers
+pub mod LineAnswers
+pub mod TableStages
+pub mod CrashTable
+pub mod PlaceStages
+pub mod Reached

@@ -1,0 +1,51 @@
+-- The table from line to line: one proposal more, no crash yet, one crash more, read as the stages of a ticket. Assumes nothing.
+use mathlib.Core.List.{List, [], _∷_, _++_}
+use mathlib.Core.Path.{_≡_, refl, sym, ap, ap₂, _∙_}
+use Prim.Native.Nat.{ℕ, zero, suc, _+_, _≤_, _<_}
+use native.Mathlib.Numerals.{add-one}
+use native.Mathlib.Omega.{arith}
+use lib.ListN.{length, take, set, replicate, length-append}
+use lib.Seq.{length-take-le, take-suc-set}
+use borrow.Author.Tests.{eq-eqb, ne-eqb}
+use Rattle.general.specs.Indexed.{mapFrom}
+use Rattle.protocol.specs.Instance.{Fault, correct}
+use Rattle.tables.specs.InstanceReading.{faultFrom, faultIn, instanceOf}
+use Rattle.tables.specs.declared.InstanceTable.{InstanceTable}
+use Rattle.ticket.specs.Reading.{next}
+use Rattle.ticket.specs.Accept.{proposals, failures, afterProposal}
+
+-- One proposal more.
+module _ (n t count v : ℕ) (values : List ℕ) (inside : count < length values) where
+  one-more : take (count + 1) (set values count v) ≡ take count values ++ (v ∷ [])
+  one-more = rw add-one (take-suc-set values count v inside)
+
+  length-more : length (take count values ++ (v ∷ [])) ≡ count + 1
+  length-more = rw (length-append, length-take-le count values (omega arith))
+
+  pub proposals-left : (count + 1 ≡ n → ⊥)
+      → next (proposals n t (take (count + 1) (set values count v))) ≡ next (afterProposal n t (take count values ++ (v ∷ [])))
+  unfolding afterProposal
+  proposals-left h = rw (length-more, ne-eqb (count + 1) n h, one-more)
+
+-- A table without crash rounds.
+take-replicate : (n m a : ℕ) → n ≤ m → take n (replicate m a) ≡ replicate n a
+take-replicate zero m a h = refl
+take-replicate (suc n) zero a h = absurd (let z : ⊥ = omega arith in z)
+take-replicate (suc n) (suc m) a h = ap (λ (l : List ℕ). a ∷ l) (take-replicate n m a (omega arith))
+
+all-correct : (x : InstanceTable) (n i : ℕ) → mapFrom (faultIn x) i (replicate n 0) ≡ replicate n correct
+unfolding mapFrom faultIn faultFrom
+all-correct x zero i = refl
+all-correct x (suc n) i = ap (λ (l : List Fault). correct ∷ l) (all-correct x n (suc i))
+
+module _ (x : InstanceTable) (count v : ℕ) (values : List ℕ) (inside : count < length values) (filled : x .values ≡ set values count v) where
+  pub proposals-done : count + 1 ≡ x .n → x .n ≤ 64 → x .rounds ≡ replicate 64 0
+      → next (failures (instanceOf x) 0 0) ≡ next (afterProposal (x .n) (x .t) (take count values ++ (v ∷ [])))
+  unfolding afterProposal instanceOf
+  proposals-done h g none =
+      let all : take count values ++ (v ∷ []) ≡ take (x .n) (x .values) = rw (filled, ← h) (sym (one-more (x .n) (x .t) count v values inside)) in
+      let whole : length (take count values ++ (v ∷ [])) ≡ x .n = length-more (x .n) (x .t) count v values inside ∙ h in
+      let pattern : replicate (x .n) correct ≡ mapFrom (faultIn x) 1 (take (x .n) (x .rounds)) =
+      sym (ap (λ (l : List ℕ). mapFrom (faultIn x) 1 (take (x .n) l)) none ∙ ap (mapFrom (faultIn x) 1) (take-replicate (x .n) 64 0 g) ∙ all-correct x (x .n) 1) in
+      rw (eq-eqb _ _ whole)
+      (ap₂ (λ (l : List ℕ) (m : List Fault). next (failures (record { processes = x .n; resilience = x .t; proposals = l; pattern = m }) 0 0)) (sym all) (sym pattern))

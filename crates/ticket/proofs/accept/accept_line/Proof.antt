@@ -1,0 +1,65 @@
+-- `accept_line` meets its contract. Assumes nothing.
+use mathlib.Core.Path.{_∙_}
+use Rattle.ticket.proofs.PlaceStages.{has-proposals, has-failures, at-header, at-proposals, at-failures, past-end}
+use borrow.Author.Needs.{needs}
+use Rattle.ticket.proofs.accept.accept_line.Statement.{statement}
+use Rattle.ticket.proofs.accept.accept_line.Tie as tie
+use Rattle.ticket.proofs.accept.accept_line.Reads as reads
+use Rattle.ticket.proofs.accept.accept_line.Lts as lts
+use Rattle.ticket.proofs.accept.failure_line.Reads as failure-line-reads
+use Rattle.ticket.proofs.accept.header_line.Reads as header-line-reads
+use Rattle.ticket.proofs.accept.proposal_line.Reads as proposal-line-reads
+use Rattle.ticket.proofs.accept.refused.Reads as refused-reads
+
+enum-told : tie.Need-enum-told
+enum-told c = search needs
+
+header-line-requires : tie.Need-header-line-requires
+header-line-requires c κs = search needs
+
+enum-known-place : tie.Need-enum-known-place
+enum-known-place c = search needs
+
+proposal-line-requires : tie.Need-proposal-line-requires
+proposal-line-requires c κs = (c .before .before .before .before .pre .0, has-proposals _ _ (c .before .place .given .1) (c .before .before .before .before .pre .1))
+
+enum-known-place-2 : tie.Need-enum-known-place-2
+enum-known-place-2 c = search needs
+
+failure-line-requires : tie.Need-failure-line-requires
+failure-line-requires c κs = (c .before .before .before .before .pre .0, has-failures _ _ (c .before .place2 .given .1) (c .before .before .before .before .pre .1))
+
+enum-told-2 : tie.Need-enum-told-2
+enum-told-2 c = search needs
+
+refused-requires : tie.Need-refused-requires
+refused-requires c κs = search needs
+
+returns : tie.Need-returns
+returns c = c .header-line .ensures ∙ at-header _ _ _ (c .before .enum-told .given .1)
+
+returns-2 : tie.Need-returns-2
+returns-2 c = c .proposal-line .ensures ∙ at-proposals _ _ _ (c .before .before .place .given .1)
+
+returns-3 : tie.Need-returns-3
+returns-3 c = c .failure-line .ensures ∙ at-failures _ _ _ (c .before .before .place2 .given .1)
+
+returns-4 : tie.Need-returns-4
+returns-4 c = c .refused .ensures ∙ past-end _ _ _ (c .before .enum-told2 .given .1)
+
+pub accept-line-spec : {M : Type 1} → statement M
+accept-line-spec =
+    tie.close
+    (tie.spec
+    enum-told
+    header-line-requires
+    enum-known-place
+    proposal-line-requires
+    enum-known-place-2
+    failure-line-requires
+    enum-told-2
+    refused-requires
+    returns
+    returns-2
+    returns-3
+    returns-4)

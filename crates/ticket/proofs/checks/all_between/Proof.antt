@@ -1,0 +1,24 @@
+-- `all_between` meets its contract. Assumes nothing.
+use Rattle.ticket.proofs.Sets.{reaches-low, reaches-above}
+use borrow.Author.Needs.{needs}
+use Rattle.ticket.proofs.checks.all_between.Statement.{statement}
+use Rattle.ticket.proofs.checks.all_between.Tie as tie
+use Rattle.ticket.proofs.checks.all_between.Reads as reads
+use Rattle.ticket.proofs.checks.all_between.Lts as lts
+use Rattle.ticket.proofs.checks.first_processes.Reads as first-processes-reads
+
+first-processes-requires : tie.Need-first-processes-requires
+first-processes-requires c κs = search needs
+
+first-processes-requires-2 : tie.Need-first-processes-requires-2
+first-processes-requires-2 c κs = search needs
+
+returns : tie.Need-returns
+returns c = reaches-low _ _ _ _ (c .before .before .first-processes .ensures) (c .if1 .taken)
+
+returns-2 : tie.Need-returns-2
+returns-2 c = reaches-above _ _ _ _ (c .before .before .first-processes .ensures) _ (c .before .first-processes2 .ensures) (c .if1 .left)
+
+pub all-between-spec : {M : Type 1} → statement M
+all-between-spec =
+    tie.close (tie.spec first-processes-requires first-processes-requires-2 returns returns-2)

@@ -1,0 +1,16 @@
+-- What an answer to a ticket stands for: document 01's numbers for each of its cases.
+use Rattle.protocol.specs.Instance.{Instance}
+use Rattle.tables.specs.InstanceReading.{instanceOf}
+use Rattle.tables.specs.declared.InstanceTable.{InstanceTable}
+use Rattle.ticket.specs.Reading.{Reading, accepted, refused}
+use Rattle.ticket.specs.declared.Answer.{Answer}
+use Rattle.ticket.specs.declared.Answer.the-variants.{Accepted, Refused}
+use Rattle.ticket.specs.declared.TicketRead.{TicketRead}
+
+-- Accepted: the table's instance. Refused: the number of the refusal and its line.
+abbrev pub readingFrom : Answer → InstanceTable → Reading Instance
+readingFrom Accepted table = accepted (instanceOf table)
+readingFrom (Refused number line) table = refused number line
+
+abbrev pub readingOf : TicketRead → Reading Instance
+readingOf r = readingFrom (r .answer) (r .table)
