@@ -22,17 +22,17 @@ use Rattle.ticket.specs.Accept.{isKind, acceptHeader, afterProposal, acceptProp
 use Rattle.ticket.specs.Ticket.{atEnd, readTicket}
 use Rattle.result.specs.HexText.{digitOf, hexDigits, hexLine}
 use Rattle.result.specs.ResultLine.{endBytes, processLine, lastLine, joined, resultLines, resultText, resultSize, refusalLine}
-use Rattle.running.specs.Running.{resultIn, running, bufferAfter, written}
+use Rattle.running.specs.Running.{resultIn, running, written, programWrites}
 use Rattle.cases.specs.Table.{Case, textOf, case1, case2, case3, case4, case5, case6, case7, case8, case9, case10, case10Passes, case11, case12, cases}
 
--- What the program writes for the case's ticket, with room for every result.
+-- What the program writes for the case's ticket.
 unfoldable pub writes : Case → List ℕ
-writes c = written (running (textOf (c .ticket)) (resultSize 64))
+writes c = programWrites (textOf (c .ticket))
 
 -- What the case says that it writes.
 unfoldable pub says : Case → List ℕ
 says c = textOf (c .output)
 
 pub marked-cases : map writes cases ≡ map says cases
-unfolding writes says cases textOf ascii case1 case2 case3 case4 case5 case6 case7 case8 case9 case10 case10Passes case11 case12 onesIn member ones64 number numberFrom bytesOf mapFrom pointFrom faultOf withinLimits arriving sends receives reachAt reachIn reach stateOf crashesIn sentBy received afterOutcome after statesAfter isUndecided anyUndecided dataAt commitsAt countIn speaks dataIn commitsIn isIdle countsAsCrash crashCount initial withRound runTo runOf crashesOf digitValue isDigit scan closed unclosed linesFrom linesOf proceed readFrom isKind acceptHeader afterProposal acceptProposal failureLine placesCrash allBetween suitsStep withCrash acceptCrash acceptFailure accept atEnd readTicket digitOf hexDigits hexLine endBytes processLine lastLine joined resultLines resultText resultSize refusalLine resultIn running written
+unfolding writes says cases textOf ascii case1 case2 case3 case4 case5 case6 case7 case8 case9 case10 case10Passes case11 case12 onesIn member ones64 number numberFrom bytesOf mapFrom pointFrom faultOf withinLimits arriving sends receives reachAt reachIn reach stateOf crashesIn sentBy received afterOutcome after statesAfter isUndecided anyUndecided dataAt commitsAt countIn speaks dataIn commitsIn isIdle countsAsCrash crashCount initial withRound runTo runOf crashesOf digitValue isDigit scan closed unclosed linesFrom linesOf proceed readFrom isKind acceptHeader afterProposal acceptProposal failureLine placesCrash allBetween suitsStep withCrash acceptCrash acceptFailure accept atEnd readTicket digitOf hexDigits hexLine endBytes processLine lastLine joined resultLines resultText resultSize refusalLine resultIn running written programWrites
 marked-cases = refl

@@ -21,5 +21,5 @@ module _ (x : Instance) (formed : WellFormed x) where
   unfolding endOf runOf
   end-at p process = state-at x (suc (x .resilience)) p (omega arith) (process .first) (omega arith)
 
-  pub decided-at : {p r v : ℕ} → Decides x p r v → stateAt x (suc (x .resilience)) p ≡ decided r v
+  pub decided-at : {p r v : ℕ} → Decides x (endOf x) p r v → stateAt x (suc (x .resilience)) p ≡ decided r v
   decided-at {p} d = sym (end-at p (d .process)) ∙ d .state

@@ -48,7 +48,7 @@ module _ (x y : Instance) (formed : WellFormed x) (paired : Paired x y) where
       (λ i v. holds-decision y r p (suc r) i v (process .first) (coordinator .first))
 
 -- Every process that decides in the first decides in the second, on the same value and no later.
-pub no-later : (x y : Instance) → WellFormed x → WellFormed y → Paired x y → NoLater x y
+pub no-later : (x y : Instance) → WellFormed x → WellFormed y → Paired x y → NoLater x (endOf x) y (endOf y)
 unfolding NoLater
 no-later x y formed formed′ paired p r v decision =
     let process : IsProcess y p = omega arith in

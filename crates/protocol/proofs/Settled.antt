@@ -51,12 +51,12 @@ module _ (x : Instance) (formed : WellFormed x) where
       omega (arith, waits-for-crashes x formed _ p v (omega arith) process (sym (end-at x formed p process) ∙ e), crashes-le x formed)
 
   -- A value that a process holds at the end is one that it has decided.
-  held-is-decided : (p v : ℕ) (s : State) → IsProcess x p → endOf x p ≡ s → Holds s v → (r : ℕ) × Decides x p r v
+  held-is-decided : (p v : ℕ) (s : State) → IsProcess x p → endOf x p ≡ s → Holds s v → (r : ℕ) × Decides x (endOf x) p r v
   held-is-decided p v (undecided u) process e h = absurd (none-ends-undecided p u process e)
   held-is-decided p v (decided r u) process e h = (r, record { process = process; state = e ∙ ap (λ (a : ℕ). decided r a) h })
   held-is-decided p v (crashed r) process e h = absurd h
 
-  decided-at-place : (k v : ℕ) → k < length (runOf x .states) → Holds (getD (runOf x .states) k (crashed 0)) v → (r : ℕ) × Decides x (suc k) r v
+  decided-at-place : (k v : ℕ) → k < length (runOf x .states) → Holds (getD (runOf x .states) k (crashed 0)) v → (r : ℕ) × Decides x (endOf x) (suc k) r v
   unfolding endOf stateOf
   decided-at-place k v h held =
       let process : IsProcess x (suc k) = omega (arith, states-at-end x formed) in

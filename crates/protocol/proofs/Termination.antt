@@ -8,7 +8,7 @@ use Rattle.protocol.specs.Instance.{Instance}
 use Rattle.protocol.specs.Round.{State, undecided, decided, crashed}
 use Rattle.protocol.specs.Run.{crashesOf}
 use Rattle.protocol.specs.WellFormed.{WellFormed}
-use Rattle.protocol.specs.Consensus.{IsProcess, endOf, Decides, Termination, EarlyDecision}
+use Rattle.protocol.specs.Consensus.{IsProcess, endOf, Decides, Termination, DecidesBy, latestOf}
 use Rattle.protocol.proofs.Pointwise.{stateAt}
 use Rattle.protocol.proofs.History.{undecided-earlier, crashed-later}
 use Rattle.protocol.proofs.Coordinator.{own-round-over, coordinator-crashed, decided-since}
@@ -33,21 +33,21 @@ module _ (x : Instance) (formed : WellFormed x) where
           let coordinator : IsProcess x k = record { first = first; last = omega arith } in
           crashed-is-one _ j (end-at x formed k coordinator ∙ crashed-later x k _ k j (omega arith) c)
 
-  pub terminates : Termination x
+  pub terminates : Termination x (endOf x)
   unfolding Termination
   terminates p process up = by-state (stateAt x (suc (x .resilience)) p) refl
     where
       at-end : endOf x p ≡ stateAt x (suc (x .resilience)) p
       at-end = end-at x formed p process
 
-      by-state : (s : State) → stateAt x (suc (x .resilience)) p ≡ s → (r : ℕ) × (v : ℕ) × Decides x p r v
+      by-state : (s : State) → stateAt x (suc (x .resilience)) p ≡ s → (r : ℕ) × (v : ℕ) × Decides x (endOf x) p r v
       by-state (undecided v) e = absurd (let z : ⊥ = omega (arith, waits-for-crashes _ p v (omega arith) process e, crashes-le x formed) in z)
       by-state (decided r v) e = (r, v, record { process = process; state = at-end ∙ e })
       by-state (crashed j) e =
           absurd (up (record { process = process; notIdle = not-idle-crashed x formed p process ∙ crashed-is-one _ j (at-end ∙ e) }))
 
-  pub decides-early : EarlyDecision x
-  unfolding EarlyDecision
+  pub decides-early : DecidesBy (latestOf x) x (endOf x)
+  unfolding DecidesBy latestOf
   decides-early p r v d =
       let (q, u, same, within, waiting) = decided-since x _ p r v (decided-at x formed d) in
       omega (arith, waits-for-crashes q p u (omega arith) (d .process) waiting)

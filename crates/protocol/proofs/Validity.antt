@@ -4,7 +4,7 @@ use Prim.Native.Nat.{ℕ, zero, suc, _≤_}
 use native.Mathlib.Omega.{arith}
 use Rattle.protocol.specs.Instance.{Instance}
 use Rattle.protocol.specs.WellFormed.{WellFormed}
-use Rattle.protocol.specs.Consensus.{IsProcess, Validity}
+use Rattle.protocol.specs.Consensus.{IsProcess, Validity, endOf}
 use Rattle.protocol.proofs.Pointwise.{stateAt, proposalOf}
 use Rattle.protocol.proofs.Values.{Holds, holds-decided, holds-after-round}
 use Rattle.protocol.proofs.Ends.{decided-at}
@@ -21,7 +21,7 @@ holds-proposed x (suc r) p h process =
     holds-after-round (Proposed x) x r p
     (holds-proposed x r (suc r) (omega arith) (record { first = omega arith; last = h })) (holds-proposed x r p (omega arith) process)
 
-pub decides-proposed : (x : Instance) → WellFormed x → Validity x
+pub decides-proposed : (x : Instance) → WellFormed x → Validity x (endOf x)
 unfolding Validity proposalOf
 decides-proposed x formed p r v d =
     holds-decided (Proposed x) _ r v (decided-at x formed d) (holds-proposed x (suc (x .resilience)) p (omega arith) (d .process))

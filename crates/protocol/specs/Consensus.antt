@@ -1,10 +1,11 @@
--- Demand 3: uniform consensus in at most f + 1 rounds (document 001, section 3.1 and Lemmas 1 to 3; document 01, 'A round', last paragraph). A claim about whole runs.
+-- Uniform consensus, decided by a round, and no later than in another run (document 001, section 3.1 and Lemmas 1 to 3; demand 3; document 01, 'A round', last paragraph).
+-- The claims are about how the processes of an instance end, by whatever protocol: `ends` gives the end of each process.
 use mathlib.Core.List.{List}
 use mathlib.Core.Path.{_≡_}
 use Prim.Native.Nat.{ℕ, suc, _-_, _≤_}
 use lib.ListN.{getD}
 use Rattle.protocol.specs.Instance.{Instance, Fault, correct, crashes, CrashPoint, duringCommits, faultOf}
-use Rattle.protocol.specs.Round.{State, decided, stateOf}
+use Rattle.protocol.specs.Round.{State, decided, crashed, stateOf}
 use Rattle.protocol.specs.Count.{countsAsCrash}
 use Rattle.protocol.specs.Run.{runOf, crashesOf}
 
@@ -13,42 +14,48 @@ pub record IsProcess (x : Instance) (p : ℕ) : Type 0 where
   pub first : 1 ≤ p
   pub last : p ≤ x .processes
 
--- The state of a process at the end of the run.
-unfoldable pub endOf : Instance → ℕ → State
-endOf x p = stateOf (runOf x .states) p
-
 -- Process p decides in round r on value v.
-pub record Decides (x : Instance) (p r v : ℕ) : Type 0 where
+pub record Decides (x : Instance) (ends : ℕ → State) (p r v : ℕ) : Type 0 where
   pub process : IsProcess x p
-  pub state : endOf x p ≡ decided r v
+  pub state : ends p ≡ decided r v
 
 -- Process p crashes undecided: it has a failure line, and the line is not idle.
-pub record CrashesUndecided (x : Instance) (p : ℕ) : Type 0 where
+pub record CrashesUndecided (x : Instance) (ends : ℕ → State) (p : ℕ) : Type 0 where
   pub process : IsProcess x p
-  pub notIdle : countsAsCrash (faultOf x p) (endOf x p) ≡ 1
+  pub notIdle : countsAsCrash (faultOf x p) (ends p) ≡ 1
 
 -- Uniform agreement: all processes that decide, crashed later or not, decide one value.
-unfoldable pub Agreement : Instance → Type 0
-Agreement x = (p q r s v w : ℕ) → Decides x p r v → Decides x q s w → v ≡ w
+unfoldable pub Agreement : Instance → (ℕ → State) → Type 0
+Agreement x ends = (p q r s v w : ℕ) → Decides x ends p r v → Decides x ends q s w → v ≡ w
 
 -- Validity: a decided value is one that a process proposed.
-unfoldable pub Validity : Instance → Type 0
-Validity x = (p r v : ℕ) → Decides x p r v → (q : ℕ) × IsProcess x q × (getD (x .proposals) (q - 1) 0 ≡ v)
+unfoldable pub Validity : Instance → (ℕ → State) → Type 0
+Validity x ends = (p r v : ℕ) → Decides x ends p r v → (q : ℕ) × IsProcess x q × (getD (x .proposals) (q - 1) 0 ≡ v)
 
 -- Termination: every process that does not crash undecided decides.
-unfoldable pub Termination : Instance → Type 0
-Termination x = (p : ℕ) → IsProcess x p → (CrashesUndecided x p → ⊥) → (r : ℕ) × (v : ℕ) × Decides x p r v
+unfoldable pub Termination : Instance → (ℕ → State) → Type 0
+Termination x ends = (p : ℕ) → IsProcess x p → (CrashesUndecided x ends p → ⊥) → (r : ℕ) × (v : ℕ) × Decides x ends p r v
 
--- Early decision: none decides after round f + 1.
-unfoldable pub EarlyDecision : Instance → Type 0
-EarlyDecision x = (p r v : ℕ) → Decides x p r v → r ≤ suc (crashesOf x)
+-- Early decision: none decides after this round.
+unfoldable pub DecidesBy : ℕ → Instance → (ℕ → State) → Type 0
+DecidesBy latest x ends = (p r v : ℕ) → Decides x ends p r v → r ≤ latest
+
+-- A process crashes undecided exactly when it has a failure line that is not idle: it then ends crashed, in the round of that line, and no other process does.
+unfoldable pub CrashesAsSaid : Instance → (ℕ → State) → Type 0
+CrashesAsSaid x ends =
+    (p : ℕ) → CrashesUndecided x ends p → (r : ℕ) × (point : CrashPoint) × (faultOf x p ≡ crashes r point) × (ends p ≡ crashed r)
+
+unfoldable pub CrashesNoOther : Instance → (ℕ → State) → Type 0
+CrashesNoOther x ends = (p r : ℕ) → IsProcess x p → ends p ≡ crashed r → CrashesUndecided x ends p
 
 -- Demand 3, first half.
-pub record UniformConsensus (x : Instance) : Type 0 where
-  pub agreement : Agreement x
-  pub validity : Validity x
-  pub termination : Termination x
-  pub earlyDecision : EarlyDecision x
+pub record UniformConsensus (latest : ℕ) (x : Instance) (ends : ℕ → State) : Type 0 where
+  pub agreement : Agreement x ends
+  pub validity : Validity x ends
+  pub termination : Termination x ends
+  pub earlyDecision : DecidesBy latest x ends
+  pub crashesAsSaid : CrashesAsSaid x ends
+  pub crashesNoOther : CrashesNoOther x ends
 
 -- The failure lines of one process in two instances: the same (or none in both), or of the commit step with as many commits or more in the second, or of the commit step and missing there.
 pub data LinePaired : Fault → Fault → Type 0 where
@@ -64,5 +71,12 @@ pub record Paired (x y : Instance) : Type 0 where
   pub lines : (p : ℕ) → IsProcess x p → LinePaired (faultOf x p) (faultOf y p)
 
 -- Demand 3, second half: every process that decides in the first decides in the second, on the same value, in the same round or an earlier one.
-unfoldable pub NoLater : Instance → Instance → Type 0
-NoLater x y = (p r v : ℕ) → Decides x p r v → (s : ℕ) × (s ≤ r) × Decides y p s v
+unfoldable pub NoLater : (x : Instance) → (ℕ → State) → (y : Instance) → (ℕ → State) → Type 0
+NoLater x ends y ends′ = (p r v : ℕ) → Decides x ends p r v → (s : ℕ) × (s ≤ r) × Decides y ends′ p s v
+
+-- The end of a process in the coordinator's run, and the last round in which one may decide there: f + 1.
+unfoldable pub endOf : Instance → ℕ → State
+endOf x p = stateOf (runOf x .states) p
+
+unfoldable pub latestOf : Instance → ℕ
+latestOf x = suc (crashesOf x)

@@ -43,6 +43,6 @@ runTo x (suc r) = withRound x (suc r) (runTo x r)
 unfoldable pub runOf : Instance → Run
 runOf x = runTo x (suc (x .resilience))
 
--- f of a whole run: how many processes crash in it.
+-- f of a whole run: the failure lines that are not idle in it.
 unfoldable pub crashesOf : Instance → ℕ
 crashesOf x = crashCount (x .pattern) (runOf x .states)

@@ -132,17 +132,23 @@ module _ (states : List State) (before : List ℕ) where
       ∙ ap₂ (λ (m : List ℕ) (k : ℕ). m ++ drop k before) longer next)
 
 -- The last line, in the part that follows the others, makes the result whole.
-module _ (run : Run) (f n : ℕ) (before : List ℕ) where
-  pub result-written : (out line back : List ℕ) → length (run .states) ≡ n → resultSize n ≤ length before
+module _ (run : Run) (f n : ℕ) (all : length (run .states) ≡ n) where
+  length-process-lines : length (joined (mapFrom processLine 1 (run .states))) ≡ 17 * n
+  length-process-lines = ap length (sym (lines-all (run .states) n all)) ∙ length-lines (run .states) n (omega arith)
+
+  pub length-result : length (resultLines run f) ≡ resultSize n
+  unfolding resultLines lastLine resultSize
+  length-result =
+      length-append (joined (mapFrom processLine 1 (run .states))) _ ∙ ap₂ (λ (a b : ℕ). a + b) length-process-lines (length-last run f) ∙ omega arith
+
+  pub result-written : (before out line back : List ℕ) → resultSize n ≤ length before
       → out ≡ joined (mapFrom processLine 1 (run .states)) ++ drop (17 * n) before
       → line ≡ 18 ∷ run .rounds ∷ f ∷ run .speakers ∷ bytesOf 2 (run .dataSent) ++ bytesOf 2 (run .commitsSent)
       → back ≡ hexLine line ++ drop 17 (midOf (17 * n) (length out - 17 * n) out)
       → putMid (17 * n) (length out - 17 * n) out back ≡ resultLines run f ++ drop (resultSize n) before
   unfolding resultLines lastLine resultSize
-  result-written out line back h fits o l b =
+  result-written before out line back fits o l b =
       let next : 17 * n + 17 ≡ 17 * suc n = omega arith in
-      let size : length (joined (mapFrom processLine 1 (run .states))) ≡ 17 * n =
-      ap length (sym (lines-all (run .states) n h)) ∙ length-lines (run .states) n (omega arith) in
       rw (b, o, l)
-      (put-part (joined (mapFrom processLine 1 (run .states))) _ before (17 * n) 17 size (length-last run f) (omega arith)
+      (put-part (joined (mapFrom processLine 1 (run .states))) _ before (17 * n) 17 length-process-lines (length-last run f) (omega arith)
       ∙ ap (λ (k : ℕ). resultLines run f ++ drop k before) next)

@@ -7,7 +7,6 @@ ghost use Rattle.general.specs.Bits.{ones64};
 ghost use Rattle.protocol.specs.Count.{isUndecided, dataAt, commitsAt, countIn, countsAsCrash};
 ghost use Rattle.rounds.specs.Entries.{entryState, entryFault};
 ghost use Rattle.rounds.specs.Reached.{membersTo};
-
 use crate::Entry;
 use crate::FaultEntry;
 

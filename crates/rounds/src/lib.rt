@@ -10,12 +10,11 @@ ghost use Rattle.tables.specs.InstanceReading.{instanceOf};
 ghost use Rattle.tables.specs.RunReading.{statesIn, runFrom};
 ghost use Rattle.rounds.specs.Halves.{withCounts, withStates};
 ghost use Rattle.rounds.specs.RoundAllowed.{RoundAllowed};
-
 use tables::InstanceTable;
 use tables::RunTable;
 
-pub mod process;
 pub mod count;
+pub mod process;
 pub mod table;
 
 // A process's entry of a run table: its end (00 undecided, 01 decided, 02 crashed), the round of it and its value.

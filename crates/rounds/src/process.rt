@@ -7,7 +7,6 @@ ghost use Rattle.protocol.specs.Instance.{pointFrom};
 ghost use Rattle.protocol.specs.Delivery.{reachAt, reach};
 ghost use Rattle.protocol.specs.Round.{received, after};
 ghost use Rattle.rounds.specs.Entries.{entryState, entryFault, reachFrom, messagesFrom};
-
 use crate::Entry;
 use crate::FaultEntry;
 
@@ -73,22 +72,46 @@ pub fn on_hearing(r: u8, p: u8, own: FaultEntry, code: u8, value: u32, s: Entry)
         return s;
     }
     if own.round == r {
-        return Entry { end: 2, ended: r, value: 0 };
+        return Entry {
+            end: 2,
+            ended: r,
+            value: 0,
+        };
     }
     if p == r {
-        return Entry { end: 1, ended: r, value: s.value };
+        return Entry {
+            end: 1,
+            ended: r,
+            value: s.value,
+        };
     }
     if code == 0 {
         return s;
     }
     if code == 1 {
-        return Entry { end: 0, ended: 0, value: value };
+        return Entry {
+            end: 0,
+            ended: 0,
+            value: value,
+        };
     }
-    Entry { end: 1, ended: r, value: value }
+    Entry {
+        end: 1,
+        ended: r,
+        value: value,
+    }
 }
 
 // What process p becomes in round r: `own` and s are its fault and state, `fault` and c the coordinator's.
-pub fn after_round(n: u8, r: u8, p: u8, own: FaultEntry, s: Entry, fault: FaultEntry, c: Entry) -> Entry
+pub fn after_round(
+    n: u8,
+    r: u8,
+    p: u8,
+    own: FaultEntry,
+    s: Entry,
+    fault: FaultEntry,
+    c: Entry,
+) -> Entry
     requires { ⌜ (1 ≤ r) × (1 ≤ p) × (p ≤ n) × (n ≤ 64) ⌝ }
     ensures { λ e. ⌜ entryState e ≡ after r p (entryFault own) (received n r (entryFault fault) (entryState c) p) (entryState s) ⌝ }
 {

@@ -2,11 +2,10 @@
 ghost use mathlib.Core.Path.{_≡_};
 ghost use Prim.Native.Nat.{_≤_};
 ghost use Rattle.rounds.specs.Entries.{entryOf, faultEntryOf, withEntry};
-
-use tables::InstanceTable;
-use tables::RunTable;
 use crate::Entry;
 use crate::FaultEntry;
+use tables::InstanceTable;
+use tables::RunTable;
 
 // The fault of process p.
 pub fn fault_of(x: InstanceTable, p: u8) -> FaultEntry

@@ -23,7 +23,11 @@ unfoldable pub bufferAfter : Reading (List ℕ) → List ℕ → List ℕ
 bufferAfter (accepted result) buffer = result ++ drop (length result) buffer
 bufferAfter (refused number line) buffer = buffer
 
--- What the program writes, which has room for every result.
+-- What is written for an answer: the result, or the refusal's line.
 unfoldable pub written : Reading (List ℕ) → List ℕ
 written (accepted result) = result
 written (refused number line) = refusalLine number line
+
+-- What the program writes for a ticket: its buffer has room for the result of 64 processes, so that it never answers refusal 9.
+unfoldable pub programWrites : List ℕ → List ℕ
+programWrites text = written (running text (resultSize 64))

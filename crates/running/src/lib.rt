@@ -5,7 +5,6 @@ ghost use Rattle.ticket.specs.Ticket.{readTicket};
 ghost use Rattle.running.specs.Running.{running, written};
 ghost use Rattle.running.specs.Settle.{Settles};
 ghost use Rattle.running.specs.Answer.{Ran, settlingOf};
-
 use ticket::Answer;
 
 // What running answers: the bytes of the result, or the number of a refusal and its line.

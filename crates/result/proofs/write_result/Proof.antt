@@ -48,8 +48,8 @@ returns c =
     let lines = written .before .before .before .before .before in
     let start = lines .before .before .before .args in
     let sixty-four = places (lines .before .before .before) in
-    result-written (runFrom (start .n) (start .run)) (start .f) (start .n) (start .out .now) _ _ _
-    (length-statesIn (start .n) (start .run) (omega arith))
+    result-written (runFrom (start .n) (start .run)) (start .f) (start .n) (length-statesIn (start .n) (start .run) (omega arith))
+    (start .out .now) _ _ _
     (lines .before .before .before .pre .1)
     (lines .put-process-lines .ensures)
     (written .before .before .last-bytes .ensures)

@@ -56,12 +56,14 @@ loop-less c = search needs
 -- src/lib.rt:89:5
 loop-again : tie.Need-loop-again Inv-loop μ-loop
 loop-again c =
-    let head = c .before .before .before .before .before in
-    (omega arith, omega arith,
-    goes-on _ _ _ _ _ _ _ _ _ _ _ (head .loop .inv .2) (omega arith) (omega arith)
-    (head .before .before .fault-of .ensures) (head .before .entry-of .ensures)
-    (c .before .before .before .fault-of2 .ensures) (c .before .before .entry-of2 .ensures)
-    (c .before .after-round .ensures) (c .with-entry .ensures))
+    let head = c .before .before .before .before .before in (
+      omega arith,
+      omega arith,
+      goes-on _ _ _ _ _ _ _ _ _ _ _ (head .loop .inv .2) (omega arith) (omega arith)
+          (head .before .before .fault-of .ensures) (head .before .entry-of .ensures)
+          (c .before .before .before .fault-of2 .ensures) (c .before .before .entry-of2 .ensures)
+          (c .before .after-round .ensures) (c .with-entry .ensures),
+    )
 
 -- src/lib.rt:80:1
 returns : tie.Need-returns Inv-loop μ-loop
