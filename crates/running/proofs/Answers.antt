@@ -9,27 +9,98 @@ use Rattle.protocol.specs.Instance.{Instance}
 use Rattle.protocol.specs.Count.{crashCount}
 use Rattle.protocol.specs.Run.{Run, runOf, crashesOf}
 use Rattle.protocol.specs.WellFormed.{WellFormed}
-use Rattle.protocol.proofs.Pointwise.{length-states}
+use Rattle.protocol.specs.Settling.{qualifies}
+use Rattle.protocol.proofs.Ends.{states-at-end}
+use Rattle.protocol.proofs.Settled.{settled-at-last}
 use Rattle.tables.specs.InstanceReading.{instanceOf}
 use Rattle.tables.specs.declared.InstanceTable.{InstanceTable}
 use Rattle.tables.specs.declared.RunTable.{RunTable}
 use Rattle.tables.specs.RunReading.{runFrom, statesIn}
 use Rattle.ticket.specs.Reading.{Reading, accepted, refused}
 use Rattle.ticket.specs.Ticket.{readTicket}
+use Rattle.ticket.specs.Answer.{readingFrom, readingOf}
+use Rattle.ticket.specs.declared.Answer.{Answer}
+use Rattle.ticket.specs.declared.TicketRead.{TicketRead}
 use Rattle.ticket.proofs.WellFormed.{accepted-well-formed}
 use Rattle.result.specs.ResultLine.{resultText, resultLines, resultSize}
+use Rattle.result.proofs.ResultLine.{length-result}
 use Rattle.running.specs.Running.{resultIn, running, bufferAfter}
-use Rattle.running.specs.Answer.{answerOf, Ran}
+use Rattle.running.specs.Settle.{Settles}
+use Rattle.running.specs.Answer.{answerOf, Ran, settlingOf}
 use Rattle.running.specs.declared.RunAnswer.the-variants.{Written, Refused}
+use Rattle.running.specs.declared.SettleAnswer.the-variants.{Round, Unsettled}
+
+-- What the ticket was read as, by the answer that reading gave.
+module _ (text : List ℕ) (r : TicketRead) (read : readingOf r ≡ readTicket text) where
+  pub read-refused : (number line : ℕ) → r .answer ≡ Answer.Refused number line → readTicket text ≡ refused number line
+  read-refused number line e = sym read ∙ ap (λ (a : Answer). readingFrom a (r .table)) e
+
+  pub read-accepted : r .answer ≡ Answer.Accepted → readTicket text ≡ accepted (instanceOf (r .table))
+  read-accepted e = sym read ∙ ap (λ (a : Answer). readingFrom a (r .table)) e
+
+-- What running answers, by what reading the ticket answers.
+module _ (text : List ℕ) (room : ℕ) where
+  pub running-refused : (number line : ℕ) → readTicket text ≡ refused number line → running text room ≡ refused number line
+  unfolding running resultIn
+  running-refused number line e = rw e
+
+  running-short : (x : Instance) → readTicket text ≡ accepted x → room < resultSize (x .processes) → running text room ≡ refused 9 0
+  unfolding running resultIn
+  running-short x e h = rw e (simp (lt-ltb _ _ h))
+
+  running-fits : (x : Instance) → readTicket text ≡ accepted x → resultSize (x .processes) ≤ room → running text room ≡ accepted (resultText x)
+  unfolding running resultIn
+  running-fits x e h = rw e (simp (le-ltb _ _ h))
 
 module _ (text before : List ℕ) where
-  pub ran-refused : (number line : ℕ) → readTicket text ≡ refused number line → Ran text before before (Refused number line)
-  unfolding running resultIn answerOf bufferAfter
-  ran-refused number line e = record { answered = rw e; buffer = rw e }
+  refused-as : (number line : ℕ) → running text (length before) ≡ refused number line → Ran text before before (Refused number line)
+  unfolding answerOf bufferAfter
+  refused-as number line e = record { answered = rw e; buffer = rw e }
 
-  pub ran-short : (x : Instance) (n : ℕ) → readTicket text ≡ accepted x → x .processes ≡ n → length before < 17 * (n + 1) → Ran text before before (Refused 9 0)
-  unfolding running resultIn answerOf bufferAfter resultSize
-  ran-short x n e same h = record { answered = rw e (simp (lt-ltb _ _ short)); buffer = rw e (simp (lt-ltb _ _ short)) }
-    where
-      short : length before < 17 * suc (x .processes)
-      short = omega arith
+  pub ran-refused : (number line : ℕ) → readTicket text ≡ refused number line → Ran text before before (Refused number line)
+  ran-refused number line e = refused-as number line (running-refused text (length before) number line e)
+
+  module _ (table : InstanceTable) (read : readTicket text ≡ accepted (instanceOf table)) where
+    formed : WellFormed (instanceOf table)
+    formed = accepted-well-formed text (instanceOf table) read
+
+    pub ran-short : length before < 17 * (table .n + 1) → Ran text before before (Refused 9 0)
+    unfolding instanceOf resultSize
+    ran-short h = refused-as 9 0 (running-short text (length before) (instanceOf table) read (omega arith))
+
+    -- The code's run and its f give the instance's result.
+    result-is : (run : RunTable) (f : ℕ) → runFrom (table .n) run ≡ runOf (instanceOf table)
+        → f ≡ crashCount (instanceOf table .pattern) (statesIn (table .n) run) → resultLines (runFrom (table .n) run) f ≡ resultText (instanceOf table)
+    unfolding resultText crashesOf runFrom
+    result-is run f same counted =
+        ap₂ resultLines same (counted ∙ ap (λ (r : Run). crashCount (instanceOf table .pattern) (r .states)) same)
+
+    length-text : length (resultText (instanceOf table)) ≡ 17 * (table .n + 1)
+    unfolding resultText resultSize instanceOf
+    length-text = length-result (runOf (instanceOf table)) (crashesOf (instanceOf table)) (table .n) (states-at-end (instanceOf table) formed) ∙ omega arith
+
+    pub ran-written : (run : RunTable) (f : ℕ) (after : List ℕ) → runFrom (table .n) run ≡ runOf (instanceOf table)
+        → f ≡ crashCount (instanceOf table .pattern) (statesIn (table .n) run) → 17 * (table .n + 1) ≤ length before
+        → after ≡ resultLines (runFrom (table .n) run) f ++ drop (resultSize (table .n)) before → Ran text before after (Written (17 * (table .n + 1)))
+    unfolding answerOf bufferAfter resultSize instanceOf
+    ran-written run f after same counted fits stored =
+        let size : resultSize (table .n) ≡ length (resultText (instanceOf table)) = omega (arith, length-text) in
+        let ran = running-fits text (length before) (instanceOf table) read (omega arith) in
+        record {
+          answered = ap Written (sym length-text) ∙ sym (ap answerOf ran);
+          buffer =
+              stored ∙ ap₂ (λ (l : List ℕ) (k : ℕ). l ++ drop k before) (result-is run f same counted) size ∙ sym (ap (λ (a : Reading (List ℕ)). bufferAfter a before) ran);
+        }
+
+-- The run's last round qualifies.
+pub settles-last : (text : List ℕ) (table : InstanceTable) (run : RunTable) → readTicket text ≡ accepted (instanceOf table)
+    → runFrom (table .n) run ≡ runOf (instanceOf table) → Settles (readTicket text) (settlingOf (Round (run .rounds)))
+unfolding Settles settlingOf runFrom
+settles-last text table run read same =
+    rw read
+    (ap (qualifies (instanceOf table)) (ap (λ (r : Run). r .rounds) same)
+    ∙ settled-at-last (instanceOf table) (accepted-well-formed text (instanceOf table) read))
+
+pub settles-refused : (text : List ℕ) (number line : ℕ) → readTicket text ≡ refused number line → Settles (readTicket text) (settlingOf (Unsettled number line))
+unfolding Settles settlingOf
+settles-refused text number line e = rw e refl

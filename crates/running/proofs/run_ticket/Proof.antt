@@ -1,13 +1,15 @@
-use native.Mathlib.Omega.{arith}
+-- `running::run_ticket` meets its contract: each answer is a law of Answers, at what reading the ticket ensures. Assumes nothing.
+use mathlib.Core.Path.{_≡_}
 use borrow.Author.Needs.{needs}
+use native.Mathlib.Omega.{arith}
+use Rattle.tables.specs.InstanceReading.{instanceOf}
+use Rattle.ticket.specs.Reading.{accepted}
+use Rattle.ticket.specs.Ticket.{readTicket}
+use Rattle.ticket.proofs.WellFormed.{accepted-well-formed}
+use Rattle.result.specs.ResultLine.{resultSize}
+use Rattle.running.proofs.Answers.{read-refused, read-accepted, ran-refused, ran-short, ran-written}
 use Rattle.running.proofs.run_ticket.Statement.{statement}
 use Rattle.running.proofs.run_ticket.Tie as tie
-use Rattle.running.proofs.run_ticket.Reads as reads
-use Rattle.running.proofs.run_ticket.Lts as lts
-use Rattle.result.proofs.write_result.Reads as write-result-reads
-use Rattle.rounds.proofs.crash_count.Reads as crash-count-reads
-use Rattle.rounds.proofs.run_all.Reads as run-all-reads
-use Rattle.ticket.proofs.read_ticket.Reads as read-ticket-reads
 
 read-ticket-requires : tie.Need-read-ticket-requires
 read-ticket-requires c κs = search needs
@@ -16,10 +18,18 @@ enum-known-answer : tie.Need-enum-known-answer
 enum-known-answer c = search needs
 
 returns : tie.Need-returns
-returns c = ?
+returns c =
+    let read = c .before .before .before .read-ticket in
+    ran-refused _ _ _ _ (read-refused _ (read .result) (read .ensures) _ _ (c .before .answer .given .1))
 
 enum-told : tie.Need-enum-told
 enum-told c = search needs
+
+-- Past the first return the ticket is accepted, with the instance of the table.
+ticket-read : (c : tie.After-x)
+    → readTicket (c .before .before .before .before .before .before .args .text .now)
+    ≡ accepted (instanceOf (c .before .before .before .read-ticket .result .table))
+ticket-read c = read-accepted _ _ (c .before .before .before .read-ticket .ensures) (c .before .enum-told .given .1)
 
 cast-size : tie.Need-cast-size
 cast-size c = search needs
@@ -31,22 +41,34 @@ mul-size : tie.Need-mul-size
 mul-size c = search needs
 
 returns-2 : tie.Need-returns-2
-returns-2 c = ?
+returns-2 c = ran-short _ _ _ (ticket-read (c .before)) (c .if1 .taken)
 
 run-all-requires : tie.Need-run-all-requires
-run-all-requires c κs = search needs
+run-all-requires c κs = accepted-well-formed _ _ (ticket-read (c .before))
 
 crash-count-requires : tie.Need-crash-count-requires
-crash-count-requires c κs = search needs
+unfolding instanceOf
+crash-count-requires c κs = accepted-well-formed _ _ (ticket-read (c .before .before)) .at-most-64
 
 write-result-requires : tie.Need-write-result-requires
-write-result-requires c κs = search needs
+unfolding instanceOf resultSize
+write-result-requires c κs =
+    let branch = c .before .before .before in
+    (accepted-well-formed _ _ (ticket-read (branch .before)) .at-most-64, omega (arith, branch .if1 .left))
 
 same-length : tie.Need-same-length
 same-length c = search needs
 
 returns-3 : tie.Need-returns-3
-returns-3 c = ?
+returns-3 c =
+    let wrote = c .before .before in
+    let counted = wrote .before .before in
+    let branch = counted .before .before in
+    ran-written _ _ _ (ticket-read (branch .before)) _ _ _
+    (counted .before .run-all .ensures)
+    (counted .crash-count .ensures)
+    (branch .if1 .left)
+    (wrote .write-result .ensures)
 
 pub run-ticket-spec : {M : Type 1} → statement M
 run-ticket-spec =

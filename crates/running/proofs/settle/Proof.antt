@@ -1,11 +1,13 @@
-use native.Mathlib.Omega.{arith}
+-- `running::settle` meets its contract: each answer is a law of Answers, at what reading the ticket ensures. Assumes nothing.
+use mathlib.Core.Path.{_≡_}
 use borrow.Author.Needs.{needs}
+use Rattle.tables.specs.InstanceReading.{instanceOf}
+use Rattle.ticket.specs.Reading.{accepted}
+use Rattle.ticket.specs.Ticket.{readTicket}
+use Rattle.ticket.proofs.WellFormed.{accepted-well-formed}
+use Rattle.running.proofs.Answers.{read-refused, read-accepted, settles-refused, settles-last}
 use Rattle.running.proofs.settle.Statement.{statement}
 use Rattle.running.proofs.settle.Tie as tie
-use Rattle.running.proofs.settle.Reads as reads
-use Rattle.running.proofs.settle.Lts as lts
-use Rattle.rounds.proofs.run_all.Reads as run-all-reads
-use Rattle.ticket.proofs.read_ticket.Reads as read-ticket-reads
 
 read-ticket-requires : tie.Need-read-ticket-requires
 read-ticket-requires c κs = search needs
@@ -14,16 +16,23 @@ enum-known-answer : tie.Need-enum-known-answer
 enum-known-answer c = search needs
 
 returns : tie.Need-returns
-returns c = ?
+returns c =
+    let read = c .before .before .before .read-ticket in
+    settles-refused _ _ _ (read-refused _ (read .result) (read .ensures) _ _ (c .before .answer .given .1))
 
 enum-told : tie.Need-enum-told
 enum-told c = search needs
 
+-- Past the first return the ticket is accepted, with the instance of the table.
+ticket-read : (c : tie.After-enum-told)
+    → readTicket (c .before .before .before .before .args .text .now) ≡ accepted (instanceOf (c .before .before .read-ticket .result .table))
+ticket-read c = read-accepted _ _ (c .before .before .read-ticket .ensures) (c .enum-told .given .1)
+
 run-all-requires : tie.Need-run-all-requires
-run-all-requires c κs = search needs
+run-all-requires c κs = accepted-well-formed _ _ (ticket-read c)
 
 returns-2 : tie.Need-returns-2
-returns-2 c = ?
+returns-2 c = settles-last _ _ _ (ticket-read (c .before)) (c .run-all .ensures)
 
 pub settle-spec : {M : Type 1} → statement M
 settle-spec =
