@@ -1,11 +1,12 @@
 -- Closing a round on what was heard (document 01, 'The desk part' and 'Refused calls', "Closing").
+use mathlib.Core.Path.{_≡_}
 use mathlib.Core.List.{List}
 use mathlib.Core.Option.{Option, some, none}
-use Prim.Native.Nat.{ℕ, suc}
-use mathlib.Core.Bool.{Bool, true, false, cond, not, _&&_}
+use Prim.Native.Nat.{ℕ, suc, _≤_, _<_}
+use mathlib.Core.Bool.{cond, not, _&&_}
 use lib.Dec.{eqb}
-use lib.ListN.{length}
-use Rattle.protocol.specs.Message.{Messages, nothing}
+use lib.ListN.{length, getD}
+use Rattle.protocol.specs.Message.{Messages}
 use Rattle.protocol.specs.Transition.{Outcome, continues, decides, receives}
 use Rattle.process.specs.PartState.{PartState, stateBytes, stateFrom, markOpen, markDecided, markOver, stateRefusal, isOwnRound}
 use Rattle.process.specs.Frame.{messagesFrom}
@@ -35,6 +36,10 @@ stateAfter s (decides v) =
       mark = markDecided;
       value = v;
     }
+
+-- Nine bytes whose round and t + 1 have room for one more in a byte, as those of every valid state have.
+abbrev pub RoundFits : List ℕ → Type 0
+RoundFits state = (length state ≡ 9) × (getD state 2 0 < 64) × (getD state 3 0 ≤ 64)
 
 -- The state after a round in which these messages were received.
 unfoldable pub closedOn : PartState → Messages → PartState

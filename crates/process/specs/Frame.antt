@@ -1,7 +1,7 @@
 -- Frames: the messages of a round as bytes (document 01, 'The desk part': "21, round, value for data; 22, round for commit").
 use mathlib.Core.List.{List, [], _∷_, _++_}
 use mathlib.Core.Option.{Option, some, none}
-use Prim.Native.Nat.{ℕ}
+use Prim.Native.Nat.{ℕ, _<_, _^_}
 use mathlib.Core.Bool.{Bool, cond, _&&_}
 use lib.Dec.{eqb}
 use lib.ListN.{length, getD, take, drop}
@@ -13,6 +13,12 @@ dataFrame r v = 0x21 ∷ r ∷ bytesOf 4 v
 
 unfoldable pub commitFrame : ℕ → List ℕ
 commitFrame r = 0x22 ∷ r ∷ []
+
+-- Messages whose value the four bytes of a frame can carry.
+unfoldable pub Carried : Messages → Type 0
+Carried nothing = Unit
+Carried (estimate v) = v < 2 ^ 32
+Carried (estimateAndCommit v) = v < 2 ^ 32
 
 -- The frames of round r that carry these messages.
 unfoldable pub framesOf : ℕ → Messages → List ℕ

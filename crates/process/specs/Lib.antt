@@ -3,3 +3,4 @@ pub mod Frame
 pub mod Start
 pub mod Speak
 pub mod Close
+pub mod Heard

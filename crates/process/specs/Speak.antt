@@ -1,7 +1,7 @@
 -- Speaking (document 01, 'The desk part' and 'Refused calls', "Speaking"). The state stays as it is.
 use mathlib.Core.List.{List, [], _++_}
 use Prim.Native.Nat.{ℕ}
-use mathlib.Core.Bool.{cond, not, _&&_}
+use mathlib.Core.Bool.{cond, not}
 use lib.Dec.{eqb, ltb}
 use lib.ListN.{length, drop}
 use Rattle.protocol.specs.Transition.{sends}
@@ -21,6 +21,10 @@ speakRefusal state room =
 -- The bytes that speaking yields: none if it is refused.
 unfoldable pub speakYields : List ℕ → ℕ → List ℕ
 speakYields state room = cond (eqb (speakRefusal state room) 0) (spokenBy (stateFrom state)) []
+
+-- The answer of speaking: its refusal, 9, 10 or 11; or the count of bytes yielded, 0 or 8.
+unfoldable pub speakAnswer : List ℕ → ℕ → ℕ
+speakAnswer state room = cond (eqb (speakRefusal state room) 0) (length (speakYields state room)) (speakRefusal state room)
 
 -- What the output holds afterwards.
 unfoldable pub speakOutput : List ℕ → List ℕ → List ℕ

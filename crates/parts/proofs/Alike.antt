@@ -1,0 +1,116 @@
+-- Process and part in one round: what the part of a process yields, and that process and part go on alike. For well-formed instances. Assumes nothing else.
+use mathlib.Core.List.{[]}
+use mathlib.Core.Path.{_≡_, refl, _∙_}
+use mathlib.Core.Bool.{Bool, true, false, cond}
+use Prim.Native.Nat.{ℕ, zero, suc, _^_, _≤_, _<_}
+use native.Mathlib.Omega.{arith}
+use native.Mathlib.Nat.{lt-of-not-le}
+use lib.Dec.{eqb}
+use borrow.Author.Tests.{eq-eqb, ne-eqb, eqb-true, eqb-false}
+use Rattle.protocol.specs.Message.{Messages, nothing}
+use Rattle.protocol.specs.Instance.{Instance, Fault}
+use Rattle.protocol.specs.Transition.{Outcome, continues, decides, sends, receives}
+use Rattle.protocol.specs.Round.{State, undecided, crashed, sentBy, crashesIn, afterOutcome, after}
+use Rattle.protocol.specs.WellFormed.{WellFormed}
+use Rattle.protocol.specs.Consensus.{IsProcess}
+use Rattle.protocol.proofs.Pointwise.{proposalOf, stateAt, state-at}
+use Rattle.protocol.proofs.Values.{Holds, holds-after-round}
+use Rattle.protocol.proofs.Coordinator.{own-round-over}
+use Rattle.process.specs.PartState.{stateBytes, stateFrom, stateValid, isOwnRound, markOpen, markDecided}
+use Rattle.process.specs.Frame.{Carried, framesOf}
+use Rattle.process.specs.Speak.{speakRefusal, speakYields}
+use Rattle.process.specs.Close.{stateAfter, closedOn, closeRefusal, closeState}
+use Rattle.process.proofs.Valid.{Identity}
+use Rattle.process.proofs.StaysValid.{within-valid}
+use Rattle.process.proofs.Exchange.{speak-yields, close-on-frames}
+use Rattle.parts.specs.Part.{Part, up, crashedIn, isOpen, outputRoom, yielded}
+use Rattle.parts.specs.Host.{partAfter}
+use Rattle.parts.specs.DecideAlike.{partState, partBytes, Alike, bothOpen, bothOver, bothDecided, bothCrashed}
+use Rattle.parts.proofs.Calls.{ended-silent, ended-stays, open-speaks}
+
+-- The part of a decided process is not open.
+decided-ended : (x : Instance) (p i v : ℕ) → stateFrom (partBytes x p i markDecided v) .mark ≡ 0 → ⊥
+unfolding stateFrom stateBytes partState
+decided-ended x p i v e = omega arith
+
+module _ (x : Instance) (formed : WellFormed x) where
+  -- n, t and every process of the instance are within the limits.
+  pub identity : (p : ℕ) → IsProcess x p → Identity p (x .processes) (x .resilience)
+  identity p process = record { process = process .first; within = process .last; processes = formed .at-most-64; resilience = formed .fewer-crashes }
+
+  -- Every value held has four bytes.
+  pub holds-fitting : (r p : ℕ) → Holds (λ v. v < 2 ^ 32) (stateAt x r p)
+  unfolding stateAt Holds proposalOf
+  holds-fitting zero p = formed .values-fit _
+  holds-fitting (suc r) p = holds-after-round _ x r p (holds-fitting r (suc r)) (holds-fitting r p)
+
+  module _ (r p : ℕ) (within : r ≤ x .resilience) (process : IsProcess x p) where
+    module _ (v : ℕ) (waiting : stateAt x r p ≡ undecided v) where
+      own-round-ahead : r < p
+      own-round-ahead = lt-of-not-le (λ (over : p ≤ r). own-round-over x r p v (process .first) over waiting)
+
+      value-fits : v < 2 ^ 32
+      unfolding Holds
+      value-fits = rw waiting at (holds-fitting r p)
+
+      -- The part of an undecided process is in a valid state.
+      open-valid : stateValid (partState x p (suc r) markOpen v) ≡ true
+      unfolding stateValid partState
+      open-valid = within-valid (identity p process) (omega arith) (record { first = omega arith; last = omega arith; own = own-round-ahead })
+
+      -- It is not refused when it speaks; what it yields; and what it becomes on frames of the round: in its own round it takes none.
+      pub open-spoken : speakRefusal (partBytes x p (suc r) markOpen v) outputRoom ≡ 0
+      unfolding partState
+      open-spoken = open-speaks (partState x p (suc r) markOpen v) open-valid refl value-fits
+
+      open-yields : speakYields (partBytes x p (suc r) markOpen v) outputRoom ≡ framesOf (suc r) (sends (eqb p (suc r)) v)
+      unfolding isOwnRound partState outputRoom
+      open-yields = speak-yields (partState x p (suc r) markOpen v) open-valid refl value-fits outputRoom (omega arith)
+
+      pub open-after : (m : Messages) → Carried m → (p ≤ suc r → m ≡ nothing)
+          → (closeRefusal (partBytes x p (suc r) markOpen v) (framesOf (suc r) m) ≡ 0)
+          × (closeState (partBytes x p (suc r) markOpen v) (framesOf (suc r) m) ≡ stateBytes (stateAfter (partState x p (suc r) markOpen v) (receives (eqb p (suc r)) v m)))
+      unfolding closedOn isOwnRound partState
+      open-after m carried alone =
+          close-on-frames (partState x p (suc r) markOpen v) open-valid refl value-fits m carried (λ e. let own : p ≡ suc r = eqb-true p (suc r) e in alone (omega arith))
+
+    -- The part of the coordinator of round r + 1 yields the frames of what its process sends; every other part nothing.
+    pub coordinator-yields : p ≡ suc r → {s : State} {part : Part} → stateAt x r p ≡ s → Alike x r p s part → yielded part ≡ framesOf (suc r) (sentBy s)
+    unfolding yielded sentBy framesOf
+    coordinator-yields own e (bothOpen {v} _) = open-yields v e ∙ rw (eq-eqb p (suc r))
+    coordinator-yields own e (bothOver over) = absurd (let z : ⊥ = omega arith in z)
+    coordinator-yields own e (bothDecided {i} {v}) = ended-silent _ (decided-ended x p i v)
+    coordinator-yields own e (bothCrashed _) = refl
+
+    pub others-silent : (p ≡ suc r → ⊥) → {s : State} {part : Part} → stateAt x r p ≡ s → Alike x r p s part → yielded part ≡ []
+    unfolding yielded sends framesOf
+    others-silent other e (bothOpen {v} _) = open-yields v e ∙ rw (ne-eqb p (suc r))
+    others-silent other e (bothOver over) = absurd (let z : ⊥ = omega arith in z)
+    others-silent other e (bothDecided {i} {v}) = ended-silent _ (decided-ended x p i v)
+    others-silent other e (bothCrashed _) = refl
+
+    -- A process that is undecided after round r + 1, or decides in it, has a part that is in round r + 2, or decided in round r + 1.
+    outcome-alike : (v : ℕ) (o : Outcome) → Alike x (suc r) p (afterOutcome (suc r) o) (up (stateBytes (stateAfter (partState x p (suc r) markOpen v) o)))
+    unfolding afterOutcome stateAfter partState
+    outcome-alike v (decides w) = bothDecided
+    outcome-alike v (continues w) = by-round (eqb (suc r) (suc (x .resilience))) refl
+      where
+        by-round : (over : Bool) → eqb (suc r) (suc (x .resilience)) ≡ over
+            → Alike x (suc r) p (undecided w) (up (stateBytes (stateAfter (partState x p (suc r) markOpen v) (continues w))))
+        by-round true e = let last : suc r ≡ suc (x .resilience) = eqb-true _ _ e in rw e (bothOver last)
+        by-round false e = let more : suc r ≡ suc (x .resilience) → ⊥ = eqb-false _ _ e in rw e (bothOpen (omega arith))
+
+    -- They go on alike.
+    pub round-alike : (own : Fault) (m : Messages) → Carried m → (p ≤ suc r → m ≡ nothing) → {s : State} {part : Part} → stateAt x r p ≡ s → Alike x r p s part
+        → Alike x (suc r) p (after (suc r) p own m s) (partAfter (suc r) own (framesOf (suc r) m) part)
+    unfolding after partAfter isOpen stateFrom partState stateBytes
+    round-alike own m carried alone e (bothOpen {v} _) = by-test (crashesIn (suc r) own)
+      where
+        by-test : (crashing : Bool)
+            → Alike x (suc r) p (cond crashing (crashed (suc r)) (afterOutcome (suc r) (receives (eqb p (suc r)) v m)))
+            (cond crashing (crashedIn (suc r) (partBytes x p (suc r) markOpen v)) (up (closeState (partBytes x p (suc r) markOpen v) (framesOf (suc r) m))))
+        by-test true = bothCrashed (state-at x r p (omega arith) (process .first) (omega arith) ∙ e)
+        by-test false = rw (open-after v e m carried alone .1) (outcome-alike v (receives (eqb p (suc r)) v m))
+    round-alike own m carried alone e (bothOver over) = absurd (let z : ⊥ = omega arith in z)
+    round-alike own m carried alone e (bothDecided {i} {v}) = rw (ended-stays (partBytes x p i markDecided v) (decided-ended x p i v) (framesOf (suc r) m)) bothDecided
+    round-alike own m carried alone e (bothCrashed began) = bothCrashed began

@@ -1,0 +1,7 @@
+pub mod Places
+pub mod Hearing
+pub mod Calls
+pub mod Alike
+pub mod DecideAlike
+pub mod Example
+pub mod PartsConsensus

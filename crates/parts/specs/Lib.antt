@@ -1,0 +1,5 @@
+pub mod Part
+pub mod Hearing
+pub mod Host
+pub mod DecideAlike
+pub mod PartEnds

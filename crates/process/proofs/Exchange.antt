@@ -1,0 +1,86 @@
+-- Speaking and closing over the bytes of states and of messages: the operations are the transition, whatever the bytes. Assumes nothing.
+use mathlib.Core.Path.{_≡_, refl, sym}
+use mathlib.Core.Option.{some, none}
+use mathlib.Core.Bool.{Bool, true, false, cond, not, _&&_}
+use Prim.Native.Nat.{ℕ, _≤_, _<_, _^_}
+use native.Mathlib.Omega.{arith}
+use lib.Dec.{eqb, ltb}
+use lib.ListN.{length}
+use borrow.Author.Tests.{le-ltb}
+use Rattle.general.specs.BigEndian.{bytesOf}
+use Rattle.protocol.specs.Message.{Messages, nothing, estimate, estimateAndCommit, Reach, dataOnly, all, arriving}
+use Rattle.protocol.specs.Message as message
+use Rattle.protocol.specs.Transition.{sends, receives}
+use Rattle.process.specs.PartState.{PartState, stateBytes, stateFrom, stateValid, stateRefusal, isOwnRound}
+use Rattle.process.specs.Frame.{Carried, dataFrame, commitFrame, framesOf, messagesFrom}
+use Rattle.process.specs.Speak.{spokenBy, speakRefusal, speakYields}
+use Rattle.process.specs.Close.{heardBy, stateAfter, closedOn, closeRefusal, closeState}
+use Rattle.process.proofs.RoundTrip.{state-from-bytes, messages-from-frames}
+use Rattle.process.proofs.StaysValid.{open-bytes}
+use Rattle.process.proofs.Operations.{close-closed}
+
+-- ---- values that four bytes can carry
+
+pub sends-carried : (own : Bool) (v : ℕ) → v < 2 ^ 32 → Carried (sends own v)
+unfolding Carried sends
+sends-carried true v h = h
+sends-carried false v h = tt
+
+pub arriving-carried : (reach : Reach) (m : Messages) → Carried m → Carried (arriving reach m)
+unfolding Carried arriving
+arriving-carried message.none m h = tt
+arriving-carried dataOnly nothing h = tt
+arriving-carried dataOnly (estimate v) h = h
+arriving-carried dataOnly (estimateAndCommit v) h = h
+arriving-carried all m h = h
+
+receives-carried : (s : PartState) (own : Bool) (m : Messages) → s .value < 2 ^ 32 → Carried m → stateAfter s (receives own (s .value) m) .value < 2 ^ 32
+unfolding Carried receives stateAfter
+receives-carried s true m h c = h
+receives-carried s false nothing h c = h
+receives-carried s false (estimate v) h c = c
+receives-carried s false (estimateAndCommit v) h c = c
+
+pub closed-on-carried : (s : PartState) (m : Messages) → s .value < 2 ^ 32 → Carried m → closedOn s m .value < 2 ^ 32
+unfolding closedOn
+closed-on-carried s m h c = receives-carried s (isOwnRound s) m h c
+
+-- ---- the operations on the bytes of a valid open state
+
+length-sent : (own : Bool) (r v : ℕ) → length (framesOf r (sends own v)) ≤ 8
+unfolding sends framesOf dataFrame commitFrame bytesOf
+length-sent true r v = omega arith
+length-sent false r v = omega arith
+
+-- In its own round a process hears no frame; in any other, those of its messages.
+heard-of : (own : Bool) (r : ℕ) (m : Messages) → Carried m → (own ≡ true → m ≡ nothing)
+    → cond (own && not (eqb (length (framesOf r m)) 0)) none (messagesFrom r (framesOf r m)) ≡ some m
+unfolding framesOf
+heard-of true r nothing c silent = messages-from-frames r nothing c
+heard-of true r (estimate v) c silent = let e = silent refl in let z : _≡_ {A = ℕ} 0 1 = cc in absurd (omega arith)
+heard-of true r (estimateAndCommit v) c silent = let e = silent refl in let z : _≡_ {A = ℕ} 0 1 = cc in absurd (omega arith)
+heard-of false r m c silent = messages-from-frames r m c
+
+module _ (s : PartState) (valid : stateValid s ≡ true) (open-mark : s .mark ≡ 0) (small : s .value < 2 ^ 32) where
+  -- Speaking yields the frames of what the process sends.
+  pub speak-yields : (room : ℕ) → 8 ≤ room → speakYields (stateBytes s) room ≡ framesOf (s .round) (sends (isOwnRound s) (s .value))
+  unfolding speakYields speakRefusal spokenBy
+  speak-yields room h =
+      let opened : stateRefusal (stateBytes s) ≡ 0 = open-bytes s valid open-mark in
+      let sent = framesOf (s .round) (sends (isOwnRound s) (s .value)) in
+      let fits : ltb room (length sent) ≡ false = le-ltb room (length sent) (omega (arith, length-sent (isOwnRound s) (s .round) (s .value))) in
+      simp (opened, state-from-bytes s small, fits)
+
+  heard-frames : (m : Messages) → Carried m → (isOwnRound s ≡ true → m ≡ nothing) → heardBy s (framesOf (s .round) m) ≡ some m
+  unfolding heardBy
+  heard-frames m c own = heard-of (isOwnRound s) (s .round) m c own
+
+  -- Closing on the frames of messages of this round is the transition on them; in its own round a process receives none.
+  pub close-on-frames : (m : Messages) → Carried m → (isOwnRound s ≡ true → m ≡ nothing)
+      → (closeRefusal (stateBytes s) (framesOf (s .round) m) ≡ 0) × (closeState (stateBytes s) (framesOf (s .round) m) ≡ stateBytes (closedOn s m))
+  close-on-frames m c own =
+      let same = state-from-bytes s small in
+      let heard : some m ≡ heardBy (stateFrom (stateBytes s)) (framesOf (s .round) m) = rw same (sym (heard-frames m c own)) in
+      let after : stateBytes (closedOn s m) ≡ stateBytes (closedOn (stateFrom (stateBytes s)) m) = rw same in
+      let closed = close-closed (stateBytes s) (framesOf (s .round) m) (open-bytes s valid open-mark) (stateBytes (closedOn s m)) m heard after in
+      (sym (closed .0), sym (closed .1))

@@ -1,0 +1,147 @@
+//! Times the proved library and the second implementation in one run.
+//!
+//! `bench [--seconds NUMBER]`: how long each measurement lasts (2).
+
+use std::env;
+use std::hint::black_box;
+use std::process::ExitCode;
+use std::time::{Duration, Instant};
+
+use against::proved::Proved;
+use second::interface::Agreement;
+use second::worked;
+use second::{Failure, Simulator, Ticket};
+
+/// Calls between two looks at the clock.
+const BATCH: u32 = 64;
+
+/// Turns that each implementation takes in a measurement. The best one counts,
+/// so that what else the machine does weighs little.
+const TURNS: u32 = 20;
+
+/// Calls of `call` per second, over at least `time`.
+fn per_second(time: Duration, mut call: impl FnMut()) -> f64 {
+    let begun = Instant::now();
+    let mut calls = 0u64;
+    while begun.elapsed() < time {
+        for _ in 0..BATCH {
+            call();
+        }
+        calls += u64::from(BATCH);
+    }
+    calls as f64 / begun.elapsed().as_secs_f64()
+}
+
+/// Calls per second of the proved and of the second implementation, in turns
+/// that add up to `time` for each.
+fn rates(time: Duration, mut call: impl FnMut(&mut dyn Agreement)) -> [f64; 2] {
+    let mut second = Simulator::new();
+    let mut modules: [&mut dyn Agreement; 2] = [&mut Proved, &mut second];
+    let mut best = [0.0f64; 2];
+    for _ in 0..TURNS {
+        for (module, best) in modules.iter_mut().zip(&mut best) {
+            *best = best.max(per_second(time / TURNS, || call(*module)));
+        }
+    }
+    best
+}
+
+/// 64 processes, of which the first `crashing` crash, each as `how` says.
+fn sixty_four(t: u8, crashing: u8, how: impl Fn(u8) -> Failure) -> Ticket {
+    Ticket {
+        n: 64,
+        t,
+        proposals: (1..=64).map(|process| process * 0x0101_0101).collect(),
+        failures: (1..=crashing).map(how).collect(),
+    }
+}
+
+/// The tickets that are timed.
+fn tickets() -> Vec<(&'static str, Vec<u8>)> {
+    let typical = sixty_four(31, 2, |process| Failure::sending_data(process, 1 << 63));
+    let worst = sixty_four(63, 63, |process| Failure::sending_commits(process, 0));
+    let mut early = typical.text();
+    early[0] = b'x';
+    let mut late = worst.text();
+    let last = late.len() - 2;
+    late[last] = b'x';
+    vec![
+        ("small: n 4, case 1", worked::case(1).text()),
+        ("typical: n 64, 2 crashes", typical.text()),
+        ("worst: n 64, t 63, 63 crashes", worst.text()),
+        ("damaged: refused at line 1", early),
+        ("damaged: refused at line 129", late),
+    ]
+}
+
+fn time_tickets(time: Duration) {
+    println!("{:<32}{:>14}{:>14}{:>8}", "tickets per second", "proved", "second", "ratio");
+    for (name, text) in tickets() {
+        let mut output = [0; 1105];
+        let [proved, second] = rates(time, |module| {
+            black_box(module.run(black_box(&text), black_box(&mut output)));
+        });
+        println!("{name:<32}{proved:>14.0}{second:>14.0}{:>8.2}", proved / second);
+    }
+}
+
+fn time_local_calls(time: Duration) {
+    println!();
+    println!("{:<32}{:>14}{:>14}{:>8}", "nanoseconds per call", "proved", "second", "ratio");
+    let coordinator = [3, 64, 63, 3, 0, 0, 0, 0, 7];
+    let listener = [9, 64, 63, 3, 0, 0, 0, 0, 7];
+    let heard = [0x21, 3, 0, 0, 0, 9, 0x22, 3];
+    type Call<'a> = (&'a str, &'a dyn Fn(&mut dyn Agreement) -> u64);
+    let calls: [Call; 4] = [
+        ("start", &|module| {
+            let mut state = [0; 9];
+            let answer = module.start(black_box(3), 64, 63, 7, &mut state);
+            answer + u64::from(black_box(state)[0])
+        }),
+        ("speak, own round", &|module| {
+            let mut output = [0; 8];
+            let answer = module.speak(black_box(&coordinator), &mut output);
+            answer + u64::from(black_box(output)[0])
+        }),
+        ("speak, another's round", &|module| module.speak(black_box(&listener), &mut [0; 8])),
+        ("close on data and commit", &|module| {
+            let mut state = black_box(listener);
+            let answer = module.close(&mut state, black_box(&heard));
+            answer + u64::from(black_box(state)[0])
+        }),
+    ];
+    for (name, call) in calls {
+        let [proved, second] = rates(time, |module| {
+            black_box(call(module));
+        })
+        .map(|calls| 1e9 / calls);
+        println!("{name:<32}{proved:>14.1}{second:>14.1}{:>8.2}", proved / second);
+    }
+}
+
+fn seconds() -> Option<f64> {
+    let arguments: Vec<String> = env::args().skip(1).collect();
+    match arguments.iter().map(String::as_str).collect::<Vec<_>>()[..] {
+        [] => Some(2.0),
+        ["--seconds", number] => number.parse().ok().filter(|&seconds| seconds > 0.0),
+        _ => None,
+    }
+}
+
+fn main() -> ExitCode {
+    let Some(seconds) = seconds() else {
+        eprintln!("usage: bench [--seconds NUMBER]");
+        return ExitCode::from(2);
+    };
+    if cfg!(debug_assertions) {
+        println!("warning: the second implementation is not built for release");
+    }
+    let time = Duration::from_secs_f64(seconds);
+    time_tickets(time);
+    time_local_calls(time);
+    println!();
+    println!("The best of {TURNS} turns that both take alternately, {seconds} s in all for each.");
+    println!("Tickets: one output buffer of 1,105 bytes, not cleared between the calls.");
+    println!("Local calls: each with a state and an output written afresh, which is timed too.");
+    ExitCode::SUCCESS
+}

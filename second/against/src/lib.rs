@@ -1,0 +1,15 @@
+//! The proved static library against the second implementation.
+//!
+//! - [`proved`]: the library's five functions.
+//! - [`comparison`]: one call or one ticket, given to both.
+//! - [`exhaustive`]: every small ticket, and every call near a valid one.
+//! - [`random`]: tickets and calls by chance.
+//! - [`shrink`]: the smallest ticket that shows a difference.
+
+#![warn(missing_docs)]
+
+pub mod comparison;
+pub mod exhaustive;
+pub mod proved;
+pub mod random;
+pub mod shrink;

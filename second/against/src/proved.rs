@@ -1,0 +1,39 @@
+//! The five functions of `libagreement.a`.
+
+use second::interface::Agreement;
+
+extern "C" {
+    fn uc_run(ticket: *const u8, ticket_len: usize, output: *mut u8, output_len: usize) -> u64;
+    fn uc_settle(ticket: *const u8, ticket_len: usize) -> u64;
+    fn uc_start(process: u64, n: u64, t: u64, value: u32, state: *mut u8, state_len: usize) -> u64;
+    fn uc_speak(state: *const u8, state_len: usize, output: *mut u8, output_len: usize) -> u64;
+    fn uc_close(state: *mut u8, state_len: usize, heard: *const u8, heard_len: usize) -> u64;
+}
+
+/// The proved library. It keeps nothing from call to call.
+#[derive(Clone, Copy, Debug)]
+pub struct Proved;
+
+// SAFETY of each call: a slice's pointer is not null and good for its length,
+// and what the library may write to is borrowed mutably, by this call alone.
+impl Agreement for Proved {
+    fn run(&mut self, ticket: &[u8], output: &mut [u8]) -> u64 {
+        unsafe { uc_run(ticket.as_ptr(), ticket.len(), output.as_mut_ptr(), output.len()) }
+    }
+
+    fn settle(&mut self, ticket: &[u8]) -> u64 {
+        unsafe { uc_settle(ticket.as_ptr(), ticket.len()) }
+    }
+
+    fn start(&mut self, process: u64, n: u64, t: u64, value: u32, state: &mut [u8]) -> u64 {
+        unsafe { uc_start(process, n, t, value, state.as_mut_ptr(), state.len()) }
+    }
+
+    fn speak(&mut self, state: &[u8], output: &mut [u8]) -> u64 {
+        unsafe { uc_speak(state.as_ptr(), state.len(), output.as_mut_ptr(), output.len()) }
+    }
+
+    fn close(&mut self, state: &mut [u8], heard: &[u8]) -> u64 {
+        unsafe { uc_close(state.as_mut_ptr(), state.len(), heard.as_ptr(), heard.len()) }
+    }
+}

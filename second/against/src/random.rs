@@ -1,0 +1,93 @@
+//! Tickets and calls by chance.
+
+use second::generate;
+use second::interface::Agreement;
+use second::local::STATE_LENGTH;
+use second::report::result_length;
+use second::rng::Rng;
+use second::ticket::MOST_PROCESSES;
+
+use crate::comparison::{Comparison, Difference};
+
+/// A ticket of up to 64 processes, damaged every other time, and with it some
+/// calls of start, speak and close.
+pub fn ticket_and_calls<M: Agreement>(
+    comparison: &mut Comparison<M>,
+    rng: &mut Rng,
+) -> Result<(), Difference> {
+    let ticket = generate::ticket(rng, MOST_PROCESSES);
+    let text = if rng.one_in(2) { generate::damaged(rng, &ticket) } else { ticket.text() };
+    let exact = result_length(ticket.n);
+    let around = exact - 20 + rng.below(41);
+    let any = rng.below(2 * result_length(MOST_PROCESSES));
+    comparison.ticket(&text, &[exact, around, any])?;
+    calls(comparison, rng)
+}
+
+/// One call each of start, speak and close.
+fn calls<M: Agreement>(comparison: &mut Comparison<M>, rng: &mut Rng) -> Result<(), Difference> {
+    let [process, n, t] = [0; 3].map(|_| start_number(rng));
+    let value = rng.next_u64() as u32;
+    let length = if rng.one_in(8) { rng.below(20) } else { STATE_LENGTH };
+    comparison.start(process, n, t, value, length)?;
+
+    let state = state(rng);
+    let room = rng.below(14);
+    comparison.speak(&state, room)?;
+    let heard = heard(rng, state.get(3).copied().unwrap_or(1));
+    comparison.close(&state, &heard)
+}
+
+fn start_number(rng: &mut Rng) -> u64 {
+    match rng.below(8) {
+        0 => rng.next_u64(),
+        1 => rng.below(600) as u64,
+        2 => rng.next_u64() << 8 | rng.below(65) as u64,
+        _ => rng.below(67) as u64,
+    }
+}
+
+/// A valid state, often with one byte changed, at times of any bytes.
+fn state(rng: &mut Rng) -> Vec<u8> {
+    if rng.one_in(16) {
+        let length = rng.below(20);
+        return (0..length).map(|_| rng.byte()).collect();
+    }
+    let n = rng.between(1, MOST_PROCESSES);
+    let t = rng.between(0, n - 1);
+    let process = rng.between(1, n);
+    let own_round = process.min(t + 1);
+    let any_round = rng.between(1, own_round);
+    let round = rng.pick(&[own_round, any_round]);
+    let mark = if rng.one_in(4) { rng.between(0, 2) } else { 0 };
+    let mut state = vec![process, n, t, round, mark];
+    state.extend((0..4).map(|_| rng.byte()));
+    if rng.one_in(3) {
+        let place = rng.below(state.len());
+        let near = state[place].wrapping_add(rng.pick(&[1, 2, 0xFF, 0xFE]));
+        let any = rng.byte();
+        state[place] = rng.pick(&[near, near, any]);
+    }
+    state
+}
+
+/// One of the three forms for `round`, often damaged, at times any bytes.
+fn heard(rng: &mut Rng, round: u8) -> Vec<u8> {
+    if rng.one_in(16) {
+        let length = rng.below(12);
+        return (0..length).map(|_| rng.byte()).collect();
+    }
+    let mut heard = vec![0x21, round];
+    heard.extend((0..4).map(|_| rng.byte()));
+    heard.extend([0x22, round]);
+    heard.truncate(rng.pick(&[0, 6, 6, 8, 8, 8]));
+    if !heard.is_empty() && rng.one_in(3) {
+        let place = rng.below(heard.len());
+        match rng.below(3) {
+            0 => heard.truncate(place),
+            1 => heard.push(rng.byte()),
+            _ => heard[place] = heard[place].wrapping_add(rng.pick(&[1, 0xFF])),
+        }
+    }
+    heard
+}

@@ -1,0 +1,305 @@
+/* A libFuzzer harness for the five functions of libagreement.a.
+ *
+ * The first byte of the input picks the function, the rest is what it is
+ * called with (seed-corpus writes inputs of this form). Checked is what needs
+ * no second implementation: answers in the documented ranges, equal answers to
+ * equal calls, refused calls that change nothing, bytes behind those written
+ * left alone, and of every result that the processes agree (document 01, and
+ * demand 3). */
+
+#include <stdint.h>
+#include <stdio.h>
+#include <stdlib.h>
+#include <string.h>
+
+uint64_t uc_run(const uint8_t *ticket, size_t ticket_len, uint8_t *output, size_t output_len);
+uint64_t uc_settle(const uint8_t *ticket, size_t ticket_len);
+uint64_t uc_start(uint64_t process, uint64_t n, uint64_t t, uint32_t value, uint8_t *state,
+                  size_t state_len);
+uint64_t uc_speak(const uint8_t *state, size_t state_len, uint8_t *output, size_t output_len);
+uint64_t uc_close(uint8_t *state, size_t state_len, const uint8_t *heard, size_t heard_len);
+
+enum {
+    LONGEST_TICKET = 4096,
+    MOST_PROCESSES = 64,
+    LINE = 17,
+    LONGEST_RESULT = LINE * (MOST_PROCESSES + 1),
+    STATE = 9,
+    SPEECH = 8,
+    DATA = 6,
+    GUARD = 16,
+    REFUSED = 65536,
+};
+
+#define CHECK(condition)                                                      \
+    do {                                                                      \
+        if (!(condition)) {                                                   \
+            fprintf(stderr, "%s:%d: %s\n", __FILE__, __LINE__, #condition);   \
+            abort();                                                          \
+        }                                                                     \
+    } while (0)
+
+/* The rest of the input, read from its beginning. */
+typedef struct {
+    const uint8_t *bytes;
+    size_t length;
+} Input;
+
+/* The next `width` bytes as a number, most significant first; missing ones are 0. */
+static uint64_t take_number(Input *input, size_t width) {
+    uint64_t number = 0;
+    for (size_t k = 0; k < width; k++) {
+        number <<= 8;
+        if (input->length > 0) {
+            number |= *input->bytes++;
+            input->length--;
+        }
+    }
+    return number;
+}
+
+/* At most `length` bytes, of which the input may have fewer. */
+static Input take_bytes(Input *input, size_t length) {
+    if (length > input->length) length = input->length;
+    Input taken = {input->bytes, length};
+    input->bytes += length;
+    input->length -= length;
+    return taken;
+}
+
+/* A copy of some bytes between two guards. */
+typedef struct {
+    uint8_t *memory;
+    uint8_t *bytes;
+    size_t length;
+} Lent;
+
+static uint8_t guard_byte(size_t at) { return (uint8_t)(0xA5 ^ at); }
+
+static Lent lend(const uint8_t *bytes, size_t length) {
+    uint8_t *memory = malloc(length + 2 * GUARD);
+    CHECK(memory != NULL);
+    for (size_t at = 0; at < length + 2 * GUARD; at++) memory[at] = guard_byte(at);
+    if (bytes != NULL) memcpy(memory + GUARD, bytes, length);
+    return (Lent){memory, memory + GUARD, length};
+}
+
+/* Checks both guards and gives the memory back. */
+static void take_back(Lent lent) {
+    for (size_t k = 0; k < GUARD; k++) {
+        size_t behind = GUARD + lent.length + k;
+        CHECK(lent.memory[k] == guard_byte(k));
+        CHECK(lent.memory[behind] == guard_byte(behind));
+    }
+    free(lent.memory);
+}
+
+/* Whether the bytes from `from` on are still those that `lend` filled in. */
+static int untouched_from(Lent lent, size_t from) {
+    for (size_t at = from; at < lent.length; at++) {
+        if (lent.bytes[at] != guard_byte(GUARD + at)) return 0;
+    }
+    return 1;
+}
+
+static unsigned digit_value(uint8_t digit) {
+    if (digit >= '0' && digit <= '9') return digit - '0';
+    CHECK(digit >= 'A' && digit <= 'F');
+    return digit - 'A' + 10u;
+}
+
+/* The number in `width` bytes of a line of digits, from byte `at` on. */
+static uint32_t number_in(const uint8_t *line, size_t at, size_t width) {
+    uint32_t number = 0;
+    for (size_t k = 2 * at; k < 2 * (at + width); k++) number = 16 * number + digit_value(line[k]);
+    return number;
+}
+
+/* The lines of a ticket, one past the last included. */
+static uint64_t possible_lines(Input ticket) {
+    uint64_t lines = 1;
+    for (size_t at = 0; at < ticket.length; at++) lines += ticket.bytes[at] == '\n';
+    return lines;
+}
+
+static void check_refusal(uint64_t answer, Input ticket, uint64_t last_number) {
+    uint64_t number = answer / REFUSED, line = answer % REFUSED;
+    CHECK(1 <= number && number <= last_number);
+    CHECK((number == 1) == (ticket.length > LONGEST_TICKET));
+    CHECK((line == 0) == (number == 1 || number == 9));
+    CHECK(line <= possible_lines(ticket));
+    if (number == 4) CHECK(line == 1);
+}
+
+/* A result by itself: its form, agreement, validity, f + 1 rounds, and the
+ * bound on messages. An accepted ticket has no blanks, so the proposals stand
+ * at fixed places in it. */
+static void check_result(const uint8_t *result, uint64_t length, Input ticket) {
+    uint32_t n = number_in(ticket.bytes, 1, 1), t = number_in(ticket.bytes, 2, 1);
+    const uint8_t *proposals = ticket.bytes + 7;
+    CHECK(1 <= n && n <= MOST_PROCESSES && t < n && length == LINE * (n + 1));
+    const uint8_t *last = result + LINE * n;
+    uint32_t rounds = number_in(last, 1, 1), f = number_in(last, 2, 1);
+    uint32_t k = number_in(last, 3, 1);
+    uint32_t messages = number_in(last, 4, 2) + number_in(last, 6, 2);
+    uint32_t decided = 0, crashed = 0, latest = 0, value = 0, proposed = 0;
+    for (uint32_t process = 1; process <= n; process++) {
+        const uint8_t *line = result + LINE * (process - 1);
+        uint32_t end = number_in(line, 2, 1), round = number_in(line, 3, 1);
+        CHECK(line[LINE - 1] == '\n');
+        CHECK(number_in(line, 0, 1) == 0x11 && number_in(line, 1, 1) == process);
+        CHECK(1 <= round && round <= rounds);
+        if (round > latest) latest = round;
+        if (end == 1) {
+            CHECK(decided == 0 || number_in(line, 4, 4) == value);
+            CHECK(round <= f + 1);
+            value = number_in(line, 4, 4);
+            decided++;
+        } else {
+            CHECK(end == 2 && number_in(line, 4, 4) == 0);
+            crashed++;
+        }
+    }
+    for (uint32_t at = 0; at < n; at++) proposed += number_in(proposals + 13 * at, 2, 4) == value;
+    CHECK(proposed > 0 && decided > 0);
+    CHECK(last[LINE - 1] == '\n' && number_in(last, 0, 1) == 0x12);
+    CHECK(crashed == f && f <= t && latest == rounds && rounds <= f + 1);
+    CHECK(1 <= k && k <= f + 1 && k <= rounds);
+    CHECK(messages + k * (k - 1) / 2 <= k * (2 * n - k - 1));
+}
+
+/* The ticket's result with room for any, or its refusal. */
+static uint64_t run_ample(Input ticket, uint8_t result[LONGEST_RESULT]) {
+    Lent text = lend(ticket.bytes, ticket.length), output = lend(NULL, LONGEST_RESULT);
+    uint64_t answer = uc_run(text.bytes, text.length, output.bytes, output.length);
+    CHECK(memcmp(text.bytes, ticket.bytes, ticket.length) == 0);
+    CHECK(untouched_from(output, answer < REFUSED ? answer : 0));
+    memcpy(result, output.bytes, LONGEST_RESULT);
+    take_back(text);
+    take_back(output);
+    return answer;
+}
+
+static void fuzz_run(Input input) {
+    size_t room = take_number(&input, 2) % (2 * LONGEST_RESULT);
+    uint8_t ample[LONGEST_RESULT];
+    uint64_t expected = run_ample(input, ample);
+    Lent text = lend(input.bytes, input.length), output = lend(NULL, room);
+    uint64_t answer = uc_run(text.bytes, text.length, output.bytes, output.length);
+    if (expected >= REFUSED) {
+        check_refusal(expected, input, 8);
+        CHECK(answer == expected && untouched_from(output, 0));
+    } else {
+        check_result(ample, expected, input);
+        if (room < expected) {
+            CHECK(answer == 9 * REFUSED && untouched_from(output, 0));
+        } else {
+            CHECK(answer == expected && untouched_from(output, expected));
+            CHECK(memcmp(output.bytes, ample, expected) == 0);
+        }
+    }
+    take_back(text);
+    take_back(output);
+}
+
+static void fuzz_settle(Input input) {
+    uint8_t result[LONGEST_RESULT];
+    uint64_t written = run_ample(input, result);
+    Lent text = lend(input.bytes, input.length);
+    uint64_t answer = uc_settle(text.bytes, text.length);
+    if (written >= REFUSED) {
+        CHECK(answer == written);
+        check_refusal(answer, input, 8);
+    } else {
+        CHECK(1 <= answer && answer <= number_in(result + written - LINE, 1, 1));
+    }
+    CHECK(memcmp(text.bytes, input.bytes, input.length) == 0);
+    take_back(text);
+}
+
+static void fuzz_start(Input input) {
+    uint64_t process = take_number(&input, 8), n = take_number(&input, 8);
+    uint64_t t = take_number(&input, 8);
+    uint32_t value = (uint32_t)take_number(&input, 4);
+    Lent state = lend(input.bytes, input.length);
+    uint64_t answer = uc_start(process, n, t, value, state.bytes, state.length);
+    int valid = 1 <= n && n <= MOST_PROCESSES && t < n && 1 <= process && process <= n;
+    if (valid && state.length == STATE) {
+        uint8_t expected[STATE] = {(uint8_t)process,       (uint8_t)n,
+                                   (uint8_t)t,             1,
+                                   0,                      (uint8_t)(value >> 24),
+                                   (uint8_t)(value >> 16), (uint8_t)(value >> 8),
+                                   (uint8_t)value};
+        CHECK(answer == 0 && memcmp(state.bytes, expected, STATE) == 0);
+    } else {
+        CHECK(answer == 10 && memcmp(state.bytes, input.bytes, input.length) == 0);
+    }
+    take_back(state);
+}
+
+static void fuzz_speak(Input input) {
+    size_t room = take_number(&input, 1) % (2 * SPEECH);
+    Lent state = lend(input.bytes, input.length), output = lend(NULL, room);
+    Lent after = lend(input.bytes, input.length);
+    uint64_t answer = uc_speak(state.bytes, state.length, output.bytes, output.length);
+    uint64_t closing = uc_close(after.bytes, after.length, output.bytes, 0);
+    CHECK(memcmp(state.bytes, input.bytes, input.length) == 0);
+    if (answer == SPEECH) {
+        CHECK(state.length == STATE && state.bytes[0] == state.bytes[3] && room >= SPEECH);
+        uint8_t round = state.bytes[3], *value = state.bytes + 5;
+        uint8_t expected[SPEECH] = {0x21,     round,    value[0], value[1],
+                                    value[2], value[3], 0x22,     round};
+        CHECK(memcmp(output.bytes, expected, SPEECH) == 0 && untouched_from(output, SPEECH));
+    } else {
+        CHECK(answer == 0 || (9 <= answer && answer <= 11));
+        CHECK(untouched_from(output, 0));
+        if (answer == 9) CHECK(room < SPEECH && state.bytes[0] == state.bytes[3]);
+        if (answer == 0) CHECK(state.bytes[0] != state.bytes[3]);
+    }
+    /* States are refused alike by both, and any open process closes on nothing. */
+    CHECK(closing == (answer == 10 || answer == 11 ? answer : 0));
+    take_back(state);
+    take_back(output);
+    take_back(after);
+}
+
+static void fuzz_close(Input input) {
+    Input before = take_bytes(&input, take_number(&input, 1) % (2 * STATE));
+    Lent state = lend(before.bytes, before.length), heard = lend(input.bytes, input.length);
+    uint64_t answer = uc_close(state.bytes, state.length, heard.bytes, heard.length);
+    CHECK(memcmp(heard.bytes, input.bytes, input.length) == 0);
+    if (answer != 0) {
+        CHECK(10 <= answer && answer <= 12);
+        CHECK(memcmp(state.bytes, before.bytes, before.length) == 0);
+    } else {
+        CHECK(state.length == STATE && before.bytes[4] == 0);
+        uint8_t own = before.bytes[0] == before.bytes[3];
+        uint8_t last = before.bytes[3] == before.bytes[2] + 1;
+        uint8_t decides = own || heard.length == SPEECH;
+        CHECK(heard.length == 0 || (!own && (heard.length == DATA || heard.length == SPEECH)));
+        const uint8_t *value = heard.length == 0 ? before.bytes + 5 : input.bytes + 2;
+        CHECK(memcmp(state.bytes, before.bytes, 3) == 0);
+        CHECK(state.bytes[3] == before.bytes[3] + (decides || last ? 0 : 1));
+        CHECK(state.bytes[4] == (decides ? 1 : last ? 2 : 0));
+        CHECK(memcmp(state.bytes + 5, value, 4) == 0);
+        /* What was closed is a state that the next call takes. */
+        uint8_t output[SPEECH];
+        uint64_t next = uc_speak(state.bytes, state.length, output, SPEECH);
+        CHECK(state.bytes[4] == 0 ? next == 0 || next == SPEECH : next == 11);
+    }
+    take_back(state);
+    take_back(heard);
+}
+
+int LLVMFuzzerTestOneInput(const uint8_t *bytes, size_t length) {
+    if (length == 0) return 0;
+    Input input = {bytes + 1, length - 1};
+    switch (bytes[0] % 5) {
+    case 0: fuzz_run(input); break;
+    case 1: fuzz_settle(input); break;
+    case 2: fuzz_start(input); break;
+    case 3: fuzz_speak(input); break;
+    case 4: fuzz_close(input); break;
+    }
+    return 0;
+}

@@ -1,0 +1,350 @@
+//! A fixed corpus of tickets: what the paper names, each size, each step, each
+//! refusal at its first, a middle and its last possible line, and random ones.
+
+use std::collections::HashSet;
+
+use crate::generate::{damaged, decode_line, decoded_lines, encode_lines, ticket};
+use crate::report::result_length;
+use crate::rng::Rng;
+use crate::ticket::{processes_above, Failure, Ticket, LONGEST_TICKET, MOST_PROCESSES};
+use crate::worked;
+
+/// A ticket's text, and how long the output buffer is that it is run with.
+#[derive(Clone, Debug, PartialEq, Eq, Hash)]
+pub struct Entry {
+    /// The text, well formed or not.
+    pub text: Vec<u8>,
+    /// The buffer's length.
+    pub room: usize,
+}
+
+impl Entry {
+    /// `text` with room for every result.
+    fn ample(text: impl Into<Vec<u8>>) -> Entry {
+        let text = text.into();
+        let room = result_length(MOST_PROCESSES);
+        Entry { text, room }
+    }
+}
+
+/// The corpus of `seed`: the systematic entries, and random ones until there
+/// are `count`. No entry stands in it twice.
+pub fn corpus(seed: u64, count: usize) -> Vec<Entry> {
+    let mut rng = Rng::new(seed);
+    let mut entries = systematic(&mut rng);
+    let mut known = HashSet::new();
+    entries.retain(|entry| known.insert(entry.clone()));
+    while entries.len() < count {
+        let entry = random_entry(&mut rng);
+        if known.insert(entry.clone()) {
+            entries.push(entry);
+        }
+    }
+    entries
+}
+
+fn systematic(rng: &mut Rng) -> Vec<Entry> {
+    let mut entries: Vec<Entry> =
+        (1..=worked::CASES).map(|number| Entry::ample(worked::case(number).text())).collect();
+    entries.extend(each_size(rng));
+    entries.extend(each_step());
+    entries.extend(wrong_lengths());
+    entries.extend(wrong_texts());
+    entries.extend(misplaced_lines());
+    entries.extend(wrong_sizes());
+    entries.extend(wrong_numbers());
+    entries.extend(wrong_sets_and_counts());
+    entries.extend(too_many_failures());
+    entries.extend(each_room());
+    entries
+}
+
+fn random_entry(rng: &mut Rng) -> Entry {
+    let ticket = ticket(rng, 24);
+    let text = if rng.one_in(3) { ticket.text() } else { damaged(rng, &ticket) };
+    let room = if rng.one_in(6) {
+        result_length(ticket.n) - 2 + rng.below(4)
+    } else {
+        result_length(MOST_PROCESSES)
+    };
+    Entry { text, room }
+}
+
+/// Process p proposes 10p.
+fn plain(n: u8, t: u8, failures: Vec<Failure>) -> Ticket {
+    let proposals = (1..=u32::from(n)).map(|process| 10 * process).collect();
+    Ticket { n, t, proposals, failures }
+}
+
+/// The first `crashing` processes crash, each as `how` says.
+fn first_crash(n: u8, t: u8, crashing: u8, how: impl Fn(u8) -> Failure) -> Ticket {
+    plain(n, t, (1..=crashing).map(how).collect())
+}
+
+/// Each n from 1 to 64: once as small a ticket as can be, and once with the
+/// largest t and crashes of each step.
+fn each_size(rng: &mut Rng) -> Vec<Entry> {
+    let mut entries = Vec::new();
+    for n in 1..=MOST_PROCESSES {
+        entries.push(Entry::ample(plain(n, 0, vec![]).text()));
+        let crashing = rng.between(0, n - 1);
+        let every_other = 0x5555_5555_5555_5555;
+        let busy = first_crash(n, n - 1, crashing, |process| match process % 3 {
+            0 => Failure::before_sending(process, process),
+            1 => Failure::sending_commits(process, 1),
+            _ => Failure::sending_data(process, processes_above(process, n) & every_other),
+        });
+        entries.push(Entry::ample(busy.text()));
+    }
+    entries
+}
+
+/// Each step at each place of five processes, and the longest runs of 64.
+fn each_step() -> Vec<Entry> {
+    let mut failures = Vec::new();
+    for process in 1..=5 {
+        failures.extend((1..=5).map(|round| Failure::before_sending(process, round)));
+        failures.extend((0..=5 - process).map(|sent| Failure::sending_commits(process, sent)));
+    }
+    failures.extend((0..16).map(|set| Failure::sending_data(1, set << 1)));
+    let mut tickets: Vec<Ticket> = failures.iter().map(|&one| plain(5, 4, vec![one])).collect();
+
+    let most = MOST_PROCESSES;
+    let long_runs: [fn(u8) -> Failure; 6] = [
+        |process| Failure::before_sending(process, process),
+        |process| Failure::before_sending(process, 1),
+        |process| Failure::sending_data(process, 0),
+        |process| Failure::sending_data(process, processes_above(process, MOST_PROCESSES)),
+        |process| Failure::sending_commits(process, 0),
+        |process| Failure::sending_commits(process, MOST_PROCESSES - process),
+    ];
+    tickets.extend(long_runs.map(|how| first_crash(most, most - 1, most - 1, how)));
+    tickets.push(plain(most, most - 1, vec![Failure::sending_data(63, 1 << 63)]));
+    tickets.iter().map(|ticket| Entry::ample(ticket.text())).collect()
+}
+
+/// Texts of 4,096 bytes and of more: refusal 1, or another if 1 is not due.
+fn wrong_lengths() -> Vec<Entry> {
+    let small = worked::case(1).text();
+    let mut entries = Vec::new();
+    for length in [LONGEST_TICKET, LONGEST_TICKET + 1] {
+        let ends: Vec<u8> = b"04\n".iter().copied().cycle().take(length).collect();
+        let mut followed = small.clone();
+        followed.extend(&ends);
+        followed.truncate(length);
+        let mut one_line = vec![b'0'; length - 1];
+        one_line.push(b'\n');
+        let mut last_line = small[..small.len() - 3].to_vec();
+        last_line.resize(length - 1, b'0');
+        last_line.push(b'\n');
+        let texts = [ends, followed, one_line, last_line, vec![b'\n'; length], vec![0; length]];
+        entries.extend(texts.map(Entry::ample));
+    }
+    entries.push(Entry::ample(vec![b'0'; 5000]));
+    entries
+}
+
+/// The ticket that faults are put into: n = 6, t = 3, three failure lines, so
+/// lines 2 to 7 are proposals, 8 to 10 failures, and 11 the end.
+fn sound() -> Ticket {
+    first_crash(6, 3, 3, |process| Failure::sending_commits(process, process - 1))
+}
+
+/// The entries of texts that are given as the bytes their digits make.
+fn entries_of(texts: &[Vec<Vec<u8>>]) -> Vec<Entry> {
+    texts.iter().map(|lines| Entry::ample(encode_lines(lines))).collect()
+}
+
+/// Refusal 2 at each line, one past the last, and without the last 0A.
+fn wrong_texts() -> Vec<Entry> {
+    let text = sound().to_string();
+    let lines: Vec<&str> = text.lines().collect();
+    let mut texts = Vec::new();
+    for at in 0..=lines.len() {
+        let line = lines.get(at).copied().unwrap_or("05");
+        let broken = [
+            String::new(),
+            line[1..].to_string(),
+            line.replacen('0', "o", 1),
+            format!("{line}0"),
+            format!(" {line}"),
+            format!("{line}\r"),
+            format!("{}a", &line[..line.len() - 1]),
+        ];
+        // Each fault at the first, a middle and the last lines; one elsewhere.
+        let kept = if [0, 5, 8, 10, 11].contains(&at) { broken.len() } else { 1 };
+        for wrong in &broken[broken.len() - kept..] {
+            let mut lines = lines.clone();
+            lines.splice(at..lines.len().min(at + 1), [wrong.as_str()]);
+            texts.push(lines.join("\n") + "\n");
+        }
+        let unclosed = [&lines[..at.min(lines.len() - 1)], &[line]].concat().join("\n");
+        texts.push(unclosed);
+    }
+    texts.push(text.clone() + "x");
+    texts.push(text.clone() + "0");
+    texts.push(text.replace('\n', "\r\n"));
+    texts.push(text.to_lowercase());
+    texts.into_iter().map(Entry::ample).collect()
+}
+
+/// Refusal 3 at each line and one past the last: a kind that is not allowed
+/// there, a wrong length, or the text over.
+fn misplaced_lines() -> Vec<Entry> {
+    let lines = decoded_lines(&sound());
+    let mut texts = vec![lines.clone()];
+    for at in 0..=lines.len() {
+        texts.push(lines[..at].to_vec());
+        for kind in [0x00, 0x01, 0x02, 0x03, 0x04, 0x05, 0xFF] {
+            let mut changed = lines.clone();
+            if at < lines.len() {
+                changed[at][0] = kind;
+            } else {
+                changed.push(vec![kind]);
+            }
+            texts.push(changed);
+        }
+        if at < lines.len() {
+            let mut longer = lines.clone();
+            longer[at].push(0);
+            let mut shorter = lines.clone();
+            shorter[at].truncate(lines[at].len().max(2) - 1);
+            let mut twice = lines.clone();
+            twice.insert(at, lines[at].clone());
+            let mut missing = lines.clone();
+            missing.remove(at);
+            texts.extend([longer, shorter, twice, missing]);
+        }
+    }
+    entries_of(&texts)
+}
+
+/// Refusal 4.
+fn wrong_sizes() -> Vec<Entry> {
+    let outside =
+        [(0, 0), (0, 255), (1, 1), (4, 4), (4, 5), (64, 64), (65, 0), (65, 64), (255, 254)];
+    outside.iter().map(|&(n, t)| Entry::ample(plain(n, t, vec![]).text())).collect()
+}
+
+/// Refusals 5, 7 and 8: a wrong number in a line of the right form. Some of
+/// the numbers are right.
+fn wrong_numbers() -> Vec<Entry> {
+    let lines = decoded_lines(&sound());
+    let mut texts = Vec::new();
+    let mut change = |line: usize, place: usize, values: &[u8]| {
+        for &value in values {
+            let mut changed = lines.clone();
+            changed[line - 1][place] = value;
+            texts.push(changed);
+        }
+    };
+    for (line, process) in (2..=7).zip(1..) {
+        change(line, 1, &[0, process - 1, process + 1, 255]);
+    }
+    for (line, process) in (8..=10).zip(1..) {
+        change(line, 1, &[0, process - 1, process + 1, 6, 7, 255]);
+        change(line, 2, &[0, process - 1, process + 1, 4, 5, 255]);
+        change(line, 3, &[0, 1, 3, 255]);
+        change(line, 4, &[1]);
+        change(line, 11, &[1, 2, 0x20, 0x40]);
+        change(line, 12, &[6 - process, 7 - process, 255]);
+    }
+    entries_of(&texts)
+}
+
+/// Refusal 8: step, set and count of process 2's failure line.
+fn wrong_sets_and_counts() -> Vec<Entry> {
+    let tried = [
+        "01000000000000003C00",
+        "01000000000000007C00",
+        "01000000000000003E00",
+        "01000000000000000100",
+        "01800000000000000000",
+        "01000000000000000401",
+        "00000000000000000400",
+        "00000000000000000001",
+        "02000000000000000400",
+        "02000000000000000004",
+        "02000000000000000005",
+    ];
+    let texts = tried.map(|rest| {
+        let mut lines = decoded_lines(&sound());
+        lines[8] = decode_line(&format!("030202{rest}"));
+        lines
+    });
+    entries_of(&texts)
+}
+
+/// Refusal 6 at the first, a middle and the last possible line.
+fn too_many_failures() -> Vec<Entry> {
+    let mut texts = Vec::new();
+    for (n, t) in [(1, 0), (4, 0), (6, 3), (64, 63)] {
+        let most = first_crash(n, t, t, |process| Failure::before_sending(process, process));
+        let sound = Failure::before_sending(t + 1, 1).to_string();
+        let all_wrong = format!("03{}", "FF".repeat(12));
+        for extra in [&sound, &all_wrong, "03"] {
+            let mut lines = decoded_lines(&most);
+            lines.insert(lines.len() - 1, decode_line(extra));
+            texts.push(lines);
+        }
+    }
+    entries_of(&texts)
+}
+
+/// Refusal 9, and just not refusal 9.
+fn each_room() -> Vec<Entry> {
+    let mut entries = Vec::new();
+    for n in [1, 4, 64] {
+        let text = plain(n, n - 1, vec![]).text();
+        let exact = result_length(n);
+        for room in [0, 1, 17, exact - 17, exact - 1, exact, exact + 1, exact + 17] {
+            let text = text.clone();
+            entries.push(Entry { text, room });
+        }
+    }
+    // Refusals 1 to 8 come first.
+    let refused = [worked::case(10).text(), worked::case(12).text(), vec![b'0'; 4097]];
+    entries.extend(refused.map(|text| Entry { text, room: 0 }));
+    entries
+}
+
+#[cfg(test)]
+mod tests {
+    use super::*;
+    use crate::Simulator;
+    use std::collections::BTreeSet;
+
+    #[test]
+    fn equal_seeds_give_equal_corpora() {
+        assert_eq!(corpus(7, 900), corpus(7, 900));
+        assert_ne!(corpus(7, 900), corpus(8, 900));
+    }
+
+    #[test]
+    fn the_systematic_part_shows_what_it_is_for() {
+        let mut simulator = Simulator::new();
+        let mut output = vec![0; 2000];
+        let (mut refusals, mut sizes) = (BTreeSet::new(), BTreeSet::new());
+        let entries = systematic(&mut Rng::new(1));
+        for Entry { text, room } in &entries {
+            match simulator.run(text, &mut output[..*room]) {
+                Ok(length) => sizes.insert(length / 17 - 1),
+                Err(refusal) => refusals.insert((refusal.reason.number(), refusal.line)),
+            };
+        }
+        assert_eq!(sizes, (1..=64).collect());
+        let shown = |number: u8, lines: &[u16]| {
+            lines.iter().all(|&line| refusals.contains(&(number, line)))
+        };
+        let every_line: Vec<u16> = (1..=12).collect();
+        assert!(shown(1, &[0]) && shown(9, &[0]));
+        assert!(shown(2, &every_line) && shown(3, &every_line));
+        assert!(shown(4, &[1]));
+        assert!(shown(5, &[2, 3, 4, 5, 6, 7]));
+        assert!(shown(6, &[3, 6, 11, 129]));
+        assert!(shown(7, &[8, 9, 10]) && shown(8, &[8, 9, 10]));
+        for length in [4096, 4097] {
+            assert!(entries.iter().any(|entry| entry.text.len() == length));
+        }
+    }
+}

@@ -1,0 +1,61 @@
+//! The module's five operations, with their answers as numbers, as its C
+//! interface has them.
+
+use crate::local;
+use crate::refusal::{Reason, Refusal};
+use crate::Simulator;
+
+/// Multiplies a refusal's number in the answers about tickets.
+pub const REFUSED: u64 = 65536;
+
+/// An implementation of the five operations, total on every input.
+pub trait Agreement {
+    /// Runs a ticket: the bytes written, or 65536 · number + line (1 to 9).
+    fn run(&mut self, ticket: &[u8], output: &mut [u8]) -> u64;
+
+    /// Settling: a round that qualifies, or 65536 · number + line (1 to 8).
+    fn settle(&mut self, ticket: &[u8]) -> u64;
+
+    /// Starts a process: 0, or refusal 10.
+    fn start(&mut self, process: u64, n: u64, t: u64, value: u32, state: &mut [u8]) -> u64;
+
+    /// Speaks: the bytes yielded, 0 or 8, or refusal 9, 10 or 11.
+    fn speak(&mut self, state: &[u8], output: &mut [u8]) -> u64;
+
+    /// Closes a round: 0, or refusal 10, 11 or 12.
+    fn close(&mut self, state: &mut [u8], heard: &[u8]) -> u64;
+}
+
+/// The answer about a refused ticket.
+pub fn refused(refusal: Refusal) -> u64 {
+    REFUSED * u64::from(refusal.reason.number()) + u64::from(refusal.line)
+}
+
+fn answer<T>(result: Result<T, Reason>, accepted: impl FnOnce(T) -> u64) -> u64 {
+    result.map_or_else(|reason| u64::from(reason.number()), accepted)
+}
+
+/// Of the rounds that qualify, settling answers the first.
+impl Agreement for Simulator {
+    fn run(&mut self, ticket: &[u8], output: &mut [u8]) -> u64 {
+        let written = Simulator::run(self, ticket, output);
+        written.map_or_else(refused, |length| length as u64)
+    }
+
+    fn settle(&mut self, ticket: &[u8]) -> u64 {
+        let rounds = self.settling_rounds(ticket);
+        rounds.map_or_else(refused, |rounds| u64::from(rounds[0]))
+    }
+
+    fn start(&mut self, process: u64, n: u64, t: u64, value: u32, state: &mut [u8]) -> u64 {
+        answer(local::start(process, n, t, value, state), |()| 0)
+    }
+
+    fn speak(&mut self, state: &[u8], output: &mut [u8]) -> u64 {
+        answer(local::speak(state, output), |length| length as u64)
+    }
+
+    fn close(&mut self, state: &mut [u8], heard: &[u8]) -> u64 {
+        answer(local::close(state, heard), |()| 0)
+    }
+}

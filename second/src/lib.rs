@@ -1,0 +1,42 @@
+//! A second implementation of document 01's base version, written from the
+//! paper alone and in a shape of its own: a run is simulated message by
+//! message, with a mailbox for each process and a switch in between.
+//!
+//! | Paper | Here |
+//! |---|---|
+//! | "The ticket", refusals 1 to 8 | [`lines`], [`ticket`] |
+//! | "A round" | [`process`], [`switch`], [`simulation`] |
+//! | "The result", refusal 9, settling | [`Simulator`], [`report`] |
+//! | "The desk part", refusals 9 to 12 | [`local`] |
+//! | "The desk part" and "A round" together | [`separate`] |
+//! | "Refused calls, by operation" | [`refusal`] |
+//! | "Worked runs" | [`worked`] |
+//!
+//! The paper's stations, desks and frames are processes and messages here, and
+//! a process that goes dark has crashed, as in document 001.
+//! [`generate`] and [`corpus`] make tickets to try implementations on, and
+//! [`interface`] is what the implementations have in common.
+
+#![forbid(unsafe_code)]
+#![warn(missing_docs)]
+
+pub mod corpus;
+pub mod generate;
+pub mod interface;
+pub mod lines;
+pub mod local;
+pub mod process;
+pub mod refusal;
+pub mod report;
+pub mod rng;
+pub mod separate;
+pub mod simulation;
+pub mod switch;
+pub mod ticket;
+pub mod worked;
+
+mod simulator;
+
+pub use refusal::{Reason, Refusal};
+pub use simulator::Simulator;
+pub use ticket::{Crash, Failure, Ticket};

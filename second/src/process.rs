@@ -1,0 +1,181 @@
+//! One process of a simulated run: document 001's figure 1, as condensed in
+//! 01, "A round".
+
+use crate::ticket::{Crash, Failure};
+
+/// What a coordinator sends. Messages arrive in the round they are sent in.
+#[derive(Clone, Copy, Debug, PartialEq, Eq)]
+pub enum Message {
+    /// The coordinator's estimate.
+    Data(u32),
+    /// Every process was sent that estimate.
+    Commit,
+}
+
+/// What has become of a process.
+#[derive(Clone, Copy, Debug, PartialEq, Eq)]
+pub enum Status {
+    /// Up and undecided.
+    Active,
+    /// Decided its estimate in this round.
+    Decided(u8),
+    /// Crashed undecided in this round.
+    Crashed(u8),
+}
+
+/// A process with its mailbox.
+#[derive(Clone, Debug)]
+pub struct Process {
+    id: u8,
+    estimate: u32,
+    status: Status,
+    failure: Option<Failure>,
+    mailbox: Vec<Message>,
+}
+
+impl Process {
+    /// Process `id`, about to begin round 1 with its proposal as its estimate.
+    pub fn new(id: u8, proposal: u32) -> Self {
+        Process {
+            id,
+            estimate: proposal,
+            status: Status::Active,
+            failure: None,
+            mailbox: Vec::with_capacity(2),
+        }
+    }
+
+    /// As a new process of the same id, in the old one's memory.
+    pub fn restart(&mut self, proposal: u32) {
+        self.estimate = proposal;
+        self.status = Status::Active;
+        self.failure = None;
+        self.mailbox.clear();
+    }
+
+    /// Lets the process crash as `failure` says, unless it decides before.
+    pub fn doom(&mut self, failure: Failure) {
+        self.failure = Some(failure);
+    }
+
+    /// Its number, 1 to n.
+    pub fn id(&self) -> u8 {
+        self.id
+    }
+
+    /// The value it holds: decided, adopted or its own proposal.
+    pub fn estimate(&self) -> u32 {
+        self.estimate
+    }
+
+    /// What has become of it.
+    pub fn status(&self) -> Status {
+        self.status
+    }
+
+    /// Whether it is up and undecided.
+    pub fn is_active(&self) -> bool {
+        self.status == Status::Active
+    }
+
+    /// Whether it has crashed.
+    pub fn has_crashed(&self) -> bool {
+        matches!(self.status, Status::Crashed(_))
+    }
+
+    /// Where in `round` the process crashes, if it does.
+    pub fn crash_in(&self, round: u8) -> Option<Crash> {
+        match self.failure {
+            Some(failure) if self.is_active() && failure.round == round => Some(failure.crash),
+            _ => None,
+        }
+    }
+
+    /// What a coordinator sends, in order: its estimate upward, then commits
+    /// from process n downward, to crashed and decided processes too.
+    pub fn messages(&self, n: u8) -> impl Iterator<Item = (u8, Message)> {
+        let data = Message::Data(self.estimate);
+        let above = self.id + 1..=n;
+        let data_step = above.clone().map(move |to| (to, data));
+        let commit_step = above.rev().map(|to| (to, Message::Commit));
+        data_step.chain(commit_step)
+    }
+
+    /// Puts a message of `round` into the mailbox, if the process hears in it.
+    pub fn hear(&mut self, round: u8, message: Message) {
+        if self.is_active() && self.crash_in(round).is_none() {
+            self.mailbox.push(message);
+        }
+    }
+
+    /// The end of `round`: the process crashes, decides as its coordinator, or
+    /// goes through its mailbox.
+    pub fn end_round(&mut self, round: u8) {
+        if !self.is_active() {
+            return;
+        }
+        if self.crash_in(round).is_some() {
+            self.status = Status::Crashed(round);
+        } else if self.id == round {
+            self.status = Status::Decided(round);
+        } else {
+            self.read_mailbox(round);
+        }
+    }
+
+    /// Adopts the value heard, and decides it if a commit was heard as well.
+    fn read_mailbox(&mut self, round: u8) {
+        let mut adopted = false;
+        for message in self.mailbox.drain(..) {
+            match message {
+                Message::Data(value) => {
+                    self.estimate = value;
+                    adopted = true;
+                }
+                Message::Commit if adopted => self.status = Status::Decided(round),
+                Message::Commit => {}
+            }
+        }
+    }
+}
+
+#[cfg(test)]
+mod tests {
+    use super::*;
+
+    #[test]
+    fn data_goes_upward_and_commits_come_downward() {
+        let sent: Vec<_> = Process::new(2, 7).messages(4).collect();
+        let data = Message::Data(7);
+        let commit = Message::Commit;
+        assert_eq!(sent, [(3, data), (4, data), (4, commit), (3, commit)]);
+        assert_eq!(Process::new(64, 7).messages(64).count(), 0);
+    }
+
+    #[test]
+    fn a_commit_decides_only_with_the_value() {
+        let after = |messages: &[Message]| {
+            let mut process = Process::new(3, 30);
+            for &message in messages {
+                process.hear(1, message);
+            }
+            process.end_round(1);
+            (process.status(), process.estimate())
+        };
+        let data = Message::Data(10);
+        assert_eq!(after(&[]), (Status::Active, 30));
+        assert_eq!(after(&[data]), (Status::Active, 10));
+        assert_eq!(after(&[data, Message::Commit]), (Status::Decided(1), 10));
+        assert_eq!(after(&[Message::Commit]), (Status::Active, 30));
+    }
+
+    #[test]
+    fn a_process_hears_nothing_in_the_round_it_crashes_in() {
+        let mut process = Process::new(3, 30);
+        process.doom(Failure::before_sending(3, 1));
+        process.hear(1, Message::Data(10));
+        process.hear(1, Message::Commit);
+        process.end_round(1);
+        assert_eq!((process.status(), process.estimate()), (Status::Crashed(1), 30));
+    }
+}

@@ -1,0 +1,141 @@
+//! A ticket run by separate local parts, one state for each process, over a
+//! switch that drops exactly what the ticket says (demand 2, second half).
+
+use crate::interface::Agreement;
+use crate::local::{SPEECH_LENGTH, STATE_LENGTH};
+use crate::process::{Message, Status};
+use crate::switch::{Fate, Uplink};
+use crate::ticket::{Failure, Ticket};
+
+/// How many of the bytes that a coordinator yields are data; the rest is the
+/// commit.
+const DATA_LENGTH: usize = 6;
+
+/// One process: its state, and what it has heard in this round.
+#[derive(Clone, Debug)]
+struct Local {
+    id: u8,
+    state: [u8; STATE_LENGTH],
+    failure: Option<Failure>,
+    crashed: Option<u8>,
+    heard: Vec<u8>,
+}
+
+impl Local {
+    fn round(&self) -> u8 {
+        self.state[3]
+    }
+
+    fn mark(&self) -> u8 {
+        self.state[4]
+    }
+
+    fn is_active(&self) -> bool {
+        self.crashed.is_none() && self.mark() == 0
+    }
+
+    fn crashes_in(&self, round: u8) -> bool {
+        let failure = self.failure.filter(|failure| failure.round == round);
+        self.is_active() && failure.is_some()
+    }
+
+    fn value(&self) -> u32 {
+        u32::from_be_bytes([self.state[5], self.state[6], self.state[7], self.state[8]])
+    }
+
+    fn end(&self) -> (Status, u32) {
+        match (self.crashed, self.mark()) {
+            (Some(round), _) => (Status::Crashed(round), 0),
+            (None, 1) => (Status::Decided(self.round()), self.value()),
+            (None, _) => (Status::Active, self.value()),
+        }
+    }
+}
+
+/// What becomes of each process, with the value it decides, if `module` is
+/// asked for each of them in each round. An error says which call was refused.
+pub fn run_separately(
+    module: &mut impl Agreement,
+    ticket: &Ticket,
+) -> Result<Vec<(Status, u32)>, String> {
+    let mut locals = start_all(module, ticket)?;
+    for round in 1..=ticket.t + 1 {
+        for sender in 0..locals.len() {
+            if locals[sender].is_active() {
+                speak(module, &mut locals, sender, round)?;
+            }
+        }
+        for local in &mut locals {
+            close(module, local, round)?;
+        }
+    }
+    Ok(locals.iter().map(Local::end).collect())
+}
+
+fn start_all(module: &mut impl Agreement, ticket: &Ticket) -> Result<Vec<Local>, String> {
+    let mut locals = Vec::with_capacity(ticket.proposals.len());
+    for (id, &value) in (1..=ticket.n).zip(&ticket.proposals) {
+        let mut state = [0xEE; STATE_LENGTH];
+        let (n, t) = (u64::from(ticket.n), u64::from(ticket.t));
+        let answer = module.start(u64::from(id), n, t, value, &mut state);
+        if answer != 0 {
+            return Err(format!("starting process {id} answers {answer}"));
+        }
+        let failure = ticket.failures.iter().find(|failure| failure.process == id);
+        locals.push(Local {
+            id,
+            state,
+            failure: failure.copied(),
+            crashed: None,
+            heard: Vec::with_capacity(SPEECH_LENGTH),
+        });
+    }
+    Ok(locals)
+}
+
+/// Asks one process to speak, and passes on what its crash lets out.
+fn speak(
+    module: &mut impl Agreement,
+    locals: &mut [Local],
+    sender: usize,
+    round: u8,
+) -> Result<(), String> {
+    let mut speech = [0xEE; SPEECH_LENGTH];
+    let id = locals[sender].id;
+    match module.speak(&locals[sender].state, &mut speech) {
+        0 => return Ok(()),
+        8 => {}
+        answer => return Err(format!("process {id} speaking in round {round} answers {answer}")),
+    }
+    let (data, commit) = speech.split_at(DATA_LENGTH);
+    let crash = locals[sender].failure.filter(|failure| failure.round == round);
+    let mut uplink = Uplink::new(crash.map(|failure| failure.crash));
+    let recipients = sender + 1..locals.len();
+    let data_step = recipients.clone().map(|to| (to, Message::Data(0), data));
+    let commit_step = recipients.rev().map(|to| (to, Message::Commit, commit));
+    for (to, message, bytes) in data_step.chain(commit_step) {
+        match uplink.fate(locals[to].id, message) {
+            Fate::Sent => locals[to].heard.extend_from_slice(bytes),
+            Fate::Lost => {}
+            Fate::Crashed => break,
+        }
+    }
+    Ok(())
+}
+
+/// Closes the round of one process, or lets it crash.
+fn close(module: &mut impl Agreement, local: &mut Local, round: u8) -> Result<(), String> {
+    if local.crashes_in(round) {
+        local.crashed = Some(round);
+    } else if local.is_active() {
+        let answer = module.close(&mut local.state, &local.heard);
+        if answer != 0 {
+            let Local { id, heard, .. } = local;
+            return Err(format!(
+                "process {id} closing round {round} on {heard:02X?} answers {answer}"
+            ));
+        }
+    }
+    local.heard.clear();
+    Ok(())
+}

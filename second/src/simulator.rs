@@ -1,0 +1,66 @@
+//! The operations on a ticket's text: running it, and settling.
+
+use crate::process::Process;
+use crate::refusal::{Reason, Refusal};
+use crate::report::{result_length, write_result};
+use crate::simulation::Simulation;
+use crate::ticket::Ticket;
+
+/// Runs tickets one after the other in the same memory.
+#[derive(Clone, Debug, Default)]
+pub struct Simulator {
+    ticket: Ticket,
+    simulation: Simulation,
+}
+
+impl Simulator {
+    /// A simulator that has run nothing yet.
+    pub fn new() -> Self {
+        Simulator::default()
+    }
+
+    /// Writes the result of the ticket `text` to the beginning of `output` and
+    /// says how long it is, or refuses (1 to 9) and writes nothing.
+    pub fn run(&mut self, text: &[u8], output: &mut [u8]) -> Result<usize, Refusal> {
+        self.ticket.read(text)?;
+        let length = result_length(self.ticket.n);
+        if output.len() < length {
+            return Err(Reason::OutputTooShort.at_no_line());
+        }
+        self.simulation.reset(&self.ticket);
+        let totals = self.simulation.run(|_, _| {});
+        write_result(self.simulation.processes(), &totals, output);
+        Ok(length)
+    }
+
+    /// The rounds at whose end all processes not crashed by then hold one
+    /// value, in order (01, "The result", last paragraph); refusals 1 to 8.
+    pub fn settling_rounds(&mut self, text: &[u8]) -> Result<Vec<u8>, Refusal> {
+        self.ticket.read(text)?;
+        self.simulation.reset(&self.ticket);
+        let mut rounds = Vec::new();
+        self.simulation.run(|round, processes| {
+            if hold_one_value(processes) {
+                rounds.push(round);
+            }
+        });
+        Ok(rounds)
+    }
+
+    /// What the program prints for `text` with an output of `room` bytes: the
+    /// result lines or the refusal line, each closed by 0A.
+    pub fn print(&mut self, text: &[u8], room: usize) -> String {
+        let mut output = vec![0; room];
+        match self.run(text, &mut output) {
+            Ok(length) => output[..length].iter().copied().map(char::from).collect(),
+            Err(refusal) => format!("{refusal}\n"),
+        }
+    }
+}
+
+fn hold_one_value(processes: &[Process]) -> bool {
+    let mut values =
+        processes.iter().filter(|process| !process.has_crashed()).map(Process::estimate);
+    let first = values.next();
+    values.all(|value| Some(value) == first)
+}

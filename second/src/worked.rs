@@ -1,0 +1,153 @@
+//! The tickets of the twelve marked cases (01, "Worked runs").
+
+use crate::ticket::{Failure, Ticket};
+
+/// How many cases are marked.
+pub const CASES: u8 = 12;
+
+/// Case 1's size and proposals with another failure pattern.
+fn four(failures: Vec<Failure>) -> Ticket {
+    Ticket { n: 4, t: 2, proposals: vec![10, 20, 30, 40], failures }
+}
+
+/// Case `number`, 1 to 12. Cases 10 to 12 are refused as texts.
+pub fn case(number: u8) -> Ticket {
+    let silent = Failure::before_sending;
+    let after_data = Failure::sending_data;
+    let after_commits = Failure::sending_commits;
+    match number {
+        1 => four(vec![after_commits(1, 1)]),
+        2 => Ticket { n: 1, t: 0, proposals: vec![10], failures: vec![] },
+        3 => four(vec![after_commits(1, 3)]),
+        4 => four(vec![after_data(1, 0b0010)]),
+        5 => four(vec![after_data(1, 0b1000)]),
+        6 => four(vec![silent(1, 1), silent(2, 1)]),
+        7 => four(vec![after_commits(1, 1), silent(4, 2)]),
+        8 => four(vec![silent(3, 2)]),
+        9 => {
+            let mut failures: Vec<_> = (1..=7).map(|process| after_commits(process, 3)).collect();
+            failures.extend([silent(8, 1), silent(9, 1)]);
+            let proposals = (1..=10).map(|process| 10 * process).collect();
+            Ticket { n: 10, t: 9, proposals, failures }
+        }
+        10 => Ticket { n: 65, t: 2, proposals: vec![0; 65], failures: vec![] },
+        11 => Ticket { t: 4, ..four(vec![]) },
+        12 => four(vec![Failure { round: 2, ..after_commits(3, 0) }]),
+        _ => panic!("no case {number} is marked"),
+    }
+}
+
+#[cfg(test)]
+mod tests {
+    use super::*;
+    use crate::process::{Process, Status};
+    use crate::simulation::{Simulation, Totals};
+    use crate::Simulator;
+
+    /// The end of each process of case `number`, with the value if decided.
+    fn ends(number: u8) -> (Vec<(Status, u32)>, Totals) {
+        let mut simulation = Simulation::new(&case(number));
+        let totals = simulation.run(|_, _| {});
+        let end = |process: &Process| match process.status() {
+            Status::Decided(_) => (process.status(), process.estimate()),
+            status => (status, 0),
+        };
+        (simulation.processes().iter().map(end).collect(), totals)
+    }
+
+    fn decided(round: u8, value: u32) -> (Status, u32) {
+        (Status::Decided(round), value)
+    }
+
+    fn crashed(round: u8) -> (Status, u32) {
+        (Status::Crashed(round), 0)
+    }
+
+    fn totals(rounds: u8, crashes: u8, speakers: u8, data: u16, commits: u16) -> Totals {
+        Totals { rounds, crashes, speakers, data, commits }
+    }
+
+    fn printed(number: u8) -> String {
+        Simulator::new().print(&case(number).text(), 2000)
+    }
+
+    #[test]
+    fn case_1_whole() {
+        let ticket = "010402\n02010000000A\n020200000014\n02030000001E\n020400000028\n\
+                      03010102000000000000000001\n04\n";
+        let result = "1101020100000000\n110201020000000A\n110301020000000A\n\
+                      110401010000000A\n1202010200050003\n";
+        assert_eq!(case(1).to_string(), ticket);
+        assert_eq!(printed(1), result);
+        let rounds = Simulator::new().settling_rounds(ticket.as_bytes());
+        assert_eq!(rounds, Ok(vec![1, 2]));
+    }
+
+    #[test]
+    fn case_2_one_process() {
+        assert_eq!(ends(2), (vec![decided(1, 10)], totals(1, 0, 1, 0, 0)));
+    }
+
+    #[test]
+    fn case_3_all_commits_went_out() {
+        let all = vec![crashed(1), decided(1, 10), decided(1, 10), decided(1, 10)];
+        assert_eq!(ends(3), (all, totals(1, 1, 1, 3, 3)));
+    }
+
+    #[test]
+    fn case_4_data_reached_process_2() {
+        let all = vec![crashed(1), decided(2, 10), decided(2, 10), decided(2, 10)];
+        assert_eq!(ends(4), (all, totals(2, 1, 2, 3, 2)));
+    }
+
+    #[test]
+    fn case_5_data_reached_process_4() {
+        let all = vec![crashed(1), decided(2, 20), decided(2, 20), decided(2, 20)];
+        assert_eq!(ends(5), (all, totals(2, 1, 2, 3, 2)));
+    }
+
+    #[test]
+    fn case_6_two_silent_rounds() {
+        let all = vec![crashed(1), crashed(1), decided(3, 30), decided(3, 30)];
+        assert_eq!(ends(6), (all, totals(3, 2, 2, 1, 1)));
+    }
+
+    #[test]
+    fn case_7_an_idle_line_changes_nothing() {
+        assert_eq!(printed(7), printed(1));
+    }
+
+    #[test]
+    fn case_8_only_an_idle_line() {
+        assert_eq!(ends(8), (vec![decided(1, 10); 4], totals(1, 0, 1, 3, 3)));
+    }
+
+    #[test]
+    fn case_9_meets_the_bound_exactly() {
+        let (ends, totals) = ends(9);
+        assert_eq!(ends[9], decided(1, 10));
+        assert_eq!((totals.crashes, totals.speakers), (9, 7));
+        assert_eq!((totals.data, totals.commits), (42, 21));
+        let (n, k) = (10, 7);
+        assert_eq!(k * (2 * n - k - 1) - k * (k - 1) / 2, 42 + 21);
+    }
+
+    #[test]
+    fn cases_10_to_12_are_refused() {
+        assert_eq!(printed(10), "1F040001\n");
+        assert_eq!(printed(11), "1F040001\n");
+        assert_eq!(printed(12), "1F080006\n");
+    }
+
+    #[test]
+    fn settling_looks_at_the_processes_up_at_the_end_of_the_round() {
+        let ticket = Ticket {
+            n: 3,
+            t: 2,
+            proposals: vec![1, 2, 3],
+            failures: vec![Failure::before_sending(1, 1), Failure::before_sending(2, 2)],
+        };
+        let rounds = Simulator::new().settling_rounds(&ticket.text());
+        assert_eq!(rounds, Ok(vec![2, 3]));
+    }
+}

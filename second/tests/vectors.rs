@@ -1,0 +1,74 @@
+//! All vectors of the repository's tests/vectors.
+
+mod json;
+
+use std::fs;
+use std::path::Path;
+
+use json::Object;
+use second::interface::Agreement;
+use second::Simulator;
+
+fn vectors(name: &str) -> Vec<Object> {
+    let folder = Path::new(env!("CARGO_MANIFEST_DIR")).join("../tests/vectors");
+    let text = fs::read_to_string(folder.join(name)).expect("the vectors");
+    text.lines().map(Object::parse).collect()
+}
+
+#[test]
+fn tickets() {
+    let mut simulator = Simulator::new();
+    let vectors = vectors("base.jsonl");
+    for (line, vector) in (1..).zip(&vectors) {
+        let about = format!("line {line}: {}", vector.text("about"));
+        let ticket = vector.bytes("ticket");
+        let room = if vector.has("room") { vector.number("room") } else { 2000 };
+        let printed = simulator.print(&ticket, room as usize);
+        assert_eq!(printed, vector.text("result"), "{about}");
+
+        let rounds = simulator.settling_rounds(&ticket);
+        if vector.has("settling_rounds_that_qualify") {
+            let rounds: Vec<u64> = rounds.expect(&about).into_iter().map(u64::from).collect();
+            assert_eq!(rounds, vector.list("settling_rounds_that_qualify"), "{about}");
+        } else {
+            let refusal = rounds.expect_err(&about);
+            assert_eq!(format!("{refusal}\n"), vector.text("result"), "{about}");
+        }
+    }
+    assert!(vectors.len() >= 600);
+}
+
+#[test]
+fn local_parts() {
+    let mut simulator = Simulator::new();
+    let vectors = vectors("desk.jsonl");
+    for (line, vector) in (1..).zip(&vectors) {
+        let refusal = vector.number("refusal");
+        match vector.text("call") {
+            "start" => {
+                let [process, n, t] = ["station", "n", "t"].map(|name| vector.number(name));
+                let value = vector.number("value").try_into().expect("four bytes");
+                let mut state = vector.bytes("lent");
+                let answer = simulator.start(process, n, t, value, &mut state);
+                assert_eq!((answer, state), (refusal, vector.bytes("lent_after")), "line {line}");
+            }
+            "speak" => {
+                let mut output = vector.bytes("output");
+                let answer = simulator.speak(&vector.bytes("state"), &mut output);
+                let expected = if refusal == 0 { vector.number("bytes_yielded") } else { refusal };
+                assert_eq!(
+                    (answer, output),
+                    (expected, vector.bytes("output_after")),
+                    "line {line}"
+                );
+            }
+            "close" => {
+                let mut state = vector.bytes("state");
+                let answer = simulator.close(&mut state, &vector.bytes("heard"));
+                assert_eq!((answer, state), (refusal, vector.bytes("state_after")), "line {line}");
+            }
+            call => panic!("line {line}: no call {call}"),
+        }
+    }
+    assert!(vectors.len() >= 1500);
+}
