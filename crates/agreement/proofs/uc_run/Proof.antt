@@ -1,0 +1,47 @@
+-- `agreement::uc_run` meets its contract. Assumes nothing.
+use Rattle.agreement.proofs.Codes.{written-code, refused-code}
+use borrow.Author.Needs.{needs}
+use Rattle.agreement.proofs.uc_run.Statement.{statement}
+use Rattle.agreement.proofs.uc_run.Tie as tie
+
+run-ticket-requires : tie.Need-run-ticket-requires
+run-ticket-requires c κs = search needs
+
+enum-known-answer : tie.Need-enum-known-answer
+enum-known-answer c = search needs
+
+enum-known-answer-2 : tie.Need-enum-known-answer-2
+enum-known-answer-2 c = search needs
+
+refusal-code-requires : tie.Need-refusal-code-requires
+refusal-code-requires c κs = search needs
+
+same-length : tie.Need-same-length
+same-length c = search needs
+
+returns : tie.Need-returns
+returns c =
+    let ran = c .before .before .before .before .before .run-ticket .ensures in
+    (written-code _ _ _ (ran .answered) (c .before .answer .given .1), ran .buffer)
+
+same-length-2 : tie.Need-same-length-2
+same-length-2 c = search needs
+
+returns-2 : tie.Need-returns-2
+returns-2 c =
+    let told = c .before .before in
+    let ran = told .before .before .before .before .run-ticket .ensures in
+    (refused-code _ _ _ _ _ (ran .answered) (told .answer2 .given .1) (c .refusal-code .ensures), ran .buffer)
+
+pub uc-run-spec : {M : Type 1} → statement M
+uc-run-spec =
+    tie.close
+    (tie.spec
+    run-ticket-requires
+    enum-known-answer
+    enum-known-answer-2
+    refusal-code-requires
+    same-length
+    returns
+    same-length-2
+    returns-2)

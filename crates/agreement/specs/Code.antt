@@ -1,0 +1,29 @@
+-- The numbers by which a C caller reads an answer (include/agreement.h; docs/DECISIONS.md, S5).
+use mathlib.Core.List.{List}
+use mathlib.Core.Path.{_≡_}
+use Prim.Native.Nat.{ℕ, _+_, _*_}
+use lib.ListN.{length}
+use Rattle.ticket.specs.Reading.{Reading, accepted, refused}
+use Rattle.running.specs.Running.{running, bufferAfter}
+use Rattle.running.specs.Settle.{Settles}
+use Rattle.ticket.specs.Ticket.{readTicket}
+
+-- A refusal and its line as one number, at least 65536.
+abbrev pub refusalCode : ℕ → ℕ → ℕ
+refusalCode number line = 65536 * number + line
+
+-- Running: the bytes of the result, or the refusal.
+unfoldable pub runCode : Reading (List ℕ) → ℕ
+runCode (accepted result) = length result
+runCode (refused number line) = refusalCode number line
+
+-- Settling: the round, or the refusal.
+unfoldable pub settleCode : Reading ℕ → ℕ
+settleCode (accepted r) = r
+settleCode (refused number line) = refusalCode number line
+
+-- The number is the code of an answer that is right for the ticket.
+pub record SettlesAs (text : List ℕ) (code : ℕ) : Type 0 where
+  pub answer : Reading ℕ
+  pub settles : Settles (readTicket text) answer
+  pub coded : code ≡ settleCode answer

@@ -1,0 +1,70 @@
+// The module's C interface (include/agreement.h): every call total on every input, its answer a documented number.
+ghost use mathlib.Core.Path.{_≡_};
+ghost use lib.ListN.{length};
+ghost use Rattle.running.specs.Running.{running, bufferAfter};
+ghost use Rattle.process.specs.Start.{startRefusal, startBytes};
+ghost use Rattle.process.specs.Speak.{speakAnswer, speakOutput};
+ghost use Rattle.process.specs.Close.{closeRefusal, closeState};
+ghost use Prim.Native.Nat.{_+_, _*_};
+ghost use Rattle.agreement.specs.Code.{refusalCode, runCode, SettlesAs};
+use running::RunAnswer;
+use running::SettleAnswer;
+
+// A refusal and its line as one number.
+fn refusal_code(number: u8, line: u16) -> u64
+    ensures { λ r. ⌜ r ≡ refusalCode number line ⌝ }
+{
+    65536 * (number as u64) + line as u64
+}
+
+// Runs a ticket: the bytes of its result, or 65536 times the refusal plus its line.
+#[no_mangle]
+pub extern "C" fn uc_run(ticket: &[u8], output: &mut [u8]) -> u64
+    ensures { λ r. ⌜ r ≡ runCode (running (now (ticket .entry)) (length (now (output .entry)))) ⌝ }
+    ensures { λ _. ⌜ now (output .exit) ≡ bufferAfter (running (now (ticket .entry)) (length (now (output .entry)))) (now (output .entry)) ⌝ }
+{
+    let answer = running::run_ticket(ticket, output);
+    match answer {
+        RunAnswer::Written(size) => size as u64,
+        RunAnswer::Refused(number, line) => refusal_code(number, line),
+    }
+}
+
+// Names a settling round of a ticket, or 65536 times the refusal plus its line.
+#[no_mangle]
+pub extern "C" fn uc_settle(ticket: &[u8]) -> u64
+    ensures { λ r. ⌜ SettlesAs (now (ticket .entry)) r ⌝ }
+{
+    let answer = running::settle(ticket);
+    match answer {
+        SettleAnswer::Round(round) => round as u64,
+        SettleAnswer::Unsettled(number, line) => refusal_code(number, line),
+    }
+}
+
+// Starts a process part: 0, or refusal 10.
+#[no_mangle]
+pub extern "C" fn uc_start(process: u64, n: u64, t: u64, value: u32, state: &mut [u8]) -> u64
+    ensures { λ r. ⌜ r ≡ startRefusal process n t (now (state .entry)) ⌝ }
+    ensures { λ _. ⌜ now (state .exit) ≡ startBytes process n t value (now (state .entry)) ⌝ }
+{
+    process::start(process, n, t, value, state)
+}
+
+// Has a process part speak: 0 or 8 bytes yielded, or refusal 9, 10 or 11.
+#[no_mangle]
+pub extern "C" fn uc_speak(state: &[u8], output: &mut [u8]) -> u64
+    ensures { λ r. ⌜ r ≡ speakAnswer (now (state .entry)) (length (now (output .entry))) ⌝ }
+    ensures { λ _. ⌜ now (output .exit) ≡ speakOutput (now (state .entry)) (now (output .entry)) ⌝ }
+{
+    process::speak(state, output)
+}
+
+// Has a process part close its round on what was heard: 0, or refusal 10, 11 or 12.
+#[no_mangle]
+pub extern "C" fn uc_close(state: &mut [u8], heard: &[u8]) -> u64
+    ensures { λ r. ⌜ r ≡ closeRefusal (now (state .entry)) (now (heard .entry)) ⌝ }
+    ensures { λ _. ⌜ now (state .exit) ≡ closeState (now (state .entry)) (now (heard .entry)) ⌝ }
+{
+    process::close(state, heard)
+}
