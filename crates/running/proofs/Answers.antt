@@ -3,7 +3,9 @@ use mathlib.Core.List.{List, _++_}
 use mathlib.Core.Path.{_≡_, refl, sym, ap, ap₂, _∙_}
 use Prim.Native.Nat.{ℕ, suc, _+_, _*_, _≤_, _<_}
 use native.Mathlib.Omega.{arith}
-use borrow.Author.Tests.{lt-ltb, le-ltb}
+use borrow.Author.Tests.{lt-ltb, le-ltb, ltb-true, ltb-false}
+use mathlib.Core.Bool.{Bool, true, false}
+use lib.Dec.{ltb}
 use lib.ListN.{length, drop}
 use Rattle.protocol.specs.Instance.{Instance}
 use Rattle.protocol.specs.Count.{crashCount}
@@ -27,6 +29,7 @@ use Rattle.result.proofs.ResultLine.{length-result}
 use Rattle.running.specs.Running.{resultIn, running, bufferAfter}
 use Rattle.running.specs.Settle.{Settles}
 use Rattle.running.specs.Answer.{answerOf, Ran, settlingOf}
+use Rattle.running.specs.declared.RunAnswer.{RunAnswer}
 use Rattle.running.specs.declared.RunAnswer.the-variants.{Written, Refused}
 use Rattle.running.specs.declared.SettleAnswer.the-variants.{Round, Unsettled}
 
@@ -104,3 +107,29 @@ settles-last text table run read same =
 pub settles-refused : (text : List ℕ) (number line : ℕ) → readTicket text ≡ refused number line → Settles (readTicket text) (settlingOf (Unsettled number line))
 unfolding Settles settlingOf
 settles-refused text number line e = rw e refl
+
+-- What running writes has room.
+module _ (text before after : List ℕ) (answer : RunAnswer) (size : ℕ) (ran : Ran text before after answer) (written : answer ≡ Written size) where
+  by-room : (x : Instance) → readTicket text ≡ accepted x → (b : Bool) → ltb (length before) (resultSize (x .processes)) ≡ b → size ≤ length before
+  unfolding answerOf resultText
+  by-room x read true short =
+      let refusal = running-short text (length before) x read (ltb-true _ _ short) in
+      let z : _≡_ {A = ℕ} 0 1 = cc (ran .answered, ap answerOf refusal) in
+      absurd (let w : ⊥ = omega arith in w)
+  by-room x read false fits =
+      let room : resultSize (x .processes) ≤ length before = ltb-false _ _ fits in
+      let result = running-fits text (length before) x read room in
+      let formed = accepted-well-formed text x read in
+      let same : size ≡ length (resultText x) = cc (ran .answered, ap answerOf result) in
+      omega (arith, length-result (runOf x) (crashesOf x) (x .processes) (states-at-end x formed))
+
+  by-reading : (a : Reading Instance) → readTicket text ≡ a → size ≤ length before
+  unfolding answerOf
+  by-reading (accepted x) read = by-room x read (ltb (length before) (resultSize (x .processes))) refl
+  by-reading (refused number line) read =
+      let refusal = running-refused text (length before) number line read in
+      let z : _≡_ {A = ℕ} 0 1 = cc (ran .answered, ap answerOf refusal) in
+      absurd (let w : ⊥ = omega arith in w)
+
+  pub written-fits : size ≤ length before
+  written-fits = by-reading (readTicket text) refl
