@@ -1,14 +1,83 @@
-# make               prove every crate and build the programs
-# make test          the gate: all of that from nothing, the must-fail edits, and the programs' output
-# make vectors       compute the definitions on every vector of tests/vectors/ and compare (about 90 s)
+# make                    prove every crate, build the programs, the C library and the example host
+# make run TICKET=FILE    run one ticket
+# make test               everything from nothing: proofs, must-fail edits, programs, and the evidence beyond the proofs
+# make vectors            compute the definitions on every vector of tests/vectors/
+# make compare            the proved library against the second implementation: SEED=1 COUNT=1000000
+# make bench              speed of both
+# make fuzz               a coverage-guided fuzzer over the C interface: SECONDS=60
+# make pictures           the runs of examples/*.ticket as diagrams in docs/pictures/
+# make install PREFIX=..  the C header, library and pkg-config file, and simulate
 
-.PHONY: all test vectors
+PREFIX ?= /usr/local
+SEED ?= 1
+COUNT ?= 1000000
+SECONDS ?= 60
 
-all:
+CC ?= cc
+CFLAGS_STRICT = -std=c11 -O2 -g -Wall -Wextra -Wpedantic -Wconversion -Werror -Iinclude
+LIBRARY = target/staticlib/libagreement.a
+SECOND = cd second && CARGO_TARGET_DIR=../target/second AGREEMENT_LIB_DIR=$(CURDIR)/target/staticlib cargo
+
+.PHONY: all prove run test vectors second-test host-test compare compare-short bench fuzz pictures install
+
+all: prove $(LIBRARY) target/bin/host
+
+prove:
 	rt check
 
+run:
+	@test -n "$(TICKET)" || { echo 'usage: make run TICKET=FILE'; exit 2; }
+	@test -x target/bin/simulate || rt check simulate >&2
+	@target/bin/simulate < $(TICKET)
+
 test:
-	@rt ci
+	@tools/test
 
 vectors:
 	tools/try-vectors
+
+$(LIBRARY):
+	rt staticlib agreement
+
+target/bin/host: examples/host.c include/agreement.h $(LIBRARY)
+	mkdir -p target/bin
+	$(CC) $(CFLAGS_STRICT) examples/host.c $(LIBRARY) -o $@
+
+target/bin/host-sanitized: examples/host.c include/agreement.h $(LIBRARY)
+	mkdir -p target/bin
+	$(CC) $(CFLAGS_STRICT) -fsanitize=address,undefined -fno-sanitize-recover=all examples/host.c $(LIBRARY) -o $@
+
+host-test: target/bin/host target/bin/host-sanitized
+	tools/host-test target/bin/host-sanitized target/bin/simulate
+
+second-test:
+	$(SECOND) test --quiet
+
+compare: $(LIBRARY)
+	$(SECOND) run --quiet --release -p against --bin compare -- --seed $(SEED) --count $(COUNT)
+
+compare-short: $(LIBRARY)
+	$(SECOND) run --quiet --release -p against --bin compare -- --short
+
+bench: $(LIBRARY)
+	$(SECOND) run --quiet --release -p against --bin bench
+
+fuzz: $(LIBRARY)
+	command -v clang > /dev/null || { apt-get update && apt-get install -y clang libclang-rt-14-dev; }
+	mkdir -p target/fuzz
+	second/fuzz/seed-corpus target/fuzz/corpus
+	clang -g -O1 -std=c11 -fsanitize=fuzzer,address,undefined second/fuzz/fuzz.c $(LIBRARY) -o target/fuzz/fuzz
+	target/fuzz/fuzz -max_len=4200 -max_total_time=$(SECONDS) target/fuzz/corpus
+
+pictures:
+	@test -x target/bin/simulate || rt check simulate >&2
+	mkdir -p docs/pictures
+	for t in examples/*.ticket; do target/bin/simulate < $$t > target/result && tools/draw-run $$t target/result docs/pictures/$$(basename $$t .ticket).svg; done
+
+install: $(LIBRARY)
+	@test -x target/bin/simulate || rt check simulate >&2
+	install -d $(DESTDIR)$(PREFIX)/bin $(DESTDIR)$(PREFIX)/include $(DESTDIR)$(PREFIX)/lib/pkgconfig
+	install -m 755 target/bin/simulate $(DESTDIR)$(PREFIX)/bin/
+	install -m 644 include/agreement.h $(DESTDIR)$(PREFIX)/include/
+	install -m 644 $(LIBRARY) $(DESTDIR)$(PREFIX)/lib/
+	sed 's|@PREFIX@|$(PREFIX)|' include/agreement.pc.in > $(DESTDIR)$(PREFIX)/lib/pkgconfig/agreement.pc
