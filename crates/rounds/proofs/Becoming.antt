@@ -1,4 +1,4 @@
--- What a process becomes, one law for each answer of the code over plain numbers: its premises are the tests that lead there. Assumes nothing.
+-- What a process becomes, one law for each answer of the far over plain numbers: its premises are the tests that lead there. Assumes nothing.
 use mathlib.Core.Path.{_≡_, refl}
 use Prim.Native.Nat.{ℕ, _≤_}
 use mathlib.Core.Bool.{false}
@@ -9,7 +9,7 @@ use Rattle.protocol.specs.Transition.{sends, receives}
 use Rattle.protocol.specs.Round.{State, crashesIn, afterOutcome, after}
 use Rattle.tables.specs.InstanceReading.{faultFrom}
 use Rattle.tables.specs.RunReading.{stateFrom}
-use Rattle.rounds.specs.Entries.{reachFrom, messagesFrom}
+use Rattle.rounds.specs.Heard.{reachFrom, messagesFrom}
 use Rattle.rounds.proofs.Cases.{crash-of-round, any-fault, any-ended}
 
 -- What process p becomes in round r from the state of an end, a round and a value, on hearing `m`, or this much of the value w.
@@ -34,18 +34,18 @@ module _ (r p round step set count end ended value : ℕ) where
   unfolding stateFrom after afterOutcome receives
   coordinator-decides m h ne e = rw (h, up ne) (simp eq-eqb)
 
-  module _ (code w : ℕ) (h : end ≡ 0) (ne : round ≡ r → ⊥) (other : p ≡ r → ⊥) where
-    pub hears-nothing : code ≡ 0
-        → stateFrom end ended value ≡ after r p (faultFrom round step set count) (messagesFrom code w) (stateFrom end ended value)
+  module _ (far w : ℕ) (h : end ≡ 0) (ne : round ≡ r → ⊥) (other : p ≡ r → ⊥) where
+    pub hears-nothing : far ≡ 0
+        → stateFrom end ended value ≡ after r p (faultFrom round step set count) (messagesFrom far w) (stateFrom end ended value)
     unfolding stateFrom after afterOutcome receives messagesFrom reachFrom arriving sends
     hears-nothing e = rw (h, up ne, e) (simp ne-eqb)
 
-    pub adopts : code ≡ 1
-        → stateFrom 0 0 w ≡ after r p (faultFrom round step set count) (messagesFrom code w) (stateFrom end ended value)
+    pub adopts : far ≡ 1
+        → stateFrom 0 0 w ≡ after r p (faultFrom round step set count) (messagesFrom far w) (stateFrom end ended value)
     unfolding stateFrom after afterOutcome receives messagesFrom reachFrom arriving sends
     adopts e = rw (h, up ne, e) (simp ne-eqb)
 
-    pub decides-too : (code ≡ 0 → ⊥) → (code ≡ 1 → ⊥)
-        → stateFrom 1 r w ≡ after r p (faultFrom round step set count) (messagesFrom code w) (stateFrom end ended value)
+    pub decides-too : (far ≡ 0 → ⊥) → (far ≡ 1 → ⊥)
+        → stateFrom 1 r w ≡ after r p (faultFrom round step set count) (messagesFrom far w) (stateFrom end ended value)
     unfolding stateFrom after afterOutcome receives messagesFrom reachFrom arriving sends
     decides-too e f = rw (h, up ne) (simp ne-eqb)

@@ -6,7 +6,7 @@ use native.Mathlib.Omega.{arith}
 use lib.Dec.{eqb}
 use borrow.Author.Tests.{ne-eqb}
 use Rattle.protocol.specs.Instance.{Fault, correct, crashes, CrashPoint, pointFrom}
-use Rattle.protocol.specs.Round.{State, undecided, decided, crashed}
+use Rattle.protocol.specs.Round.{State, decided, crashed}
 use Rattle.protocol.specs.Count.{isUndecided}
 use Rattle.tables.specs.InstanceReading.{faultFrom}
 use Rattle.tables.specs.RunReading.{stateFrom}

@@ -1,5 +1,5 @@
 -- What a round counts, from what the code reads of the tables; and a round from its two halves. Assumes nothing.
-use mathlib.Core.Path.{_≡_, refl, sym, ap, _∙_}
+use mathlib.Core.Path.{_≡_, sym, ap, _∙_}
 use Prim.Native.Nat.{ℕ, _+_, _-_, _≤_}
 use mathlib.Core.Bool.{Bool, true, false, cond}
 use native.Mathlib.Omega.{arith}
@@ -7,7 +7,7 @@ use lib.ListN.{length}
 use Rattle.protocol.specs.Instance.{CrashPoint, faultOf}
 use Rattle.protocol.specs.Round.{State, stateOf}
 use Rattle.protocol.specs.Count.{isUndecided, anyUndecided, speaks, dataAt, commitsAt, countIn, dataIn, commitsIn}
-use Rattle.protocol.specs.Run.{Run, withRound}
+use Rattle.protocol.specs.Run.{withRound}
 use Rattle.protocol.proofs.Counts.{cond-le}
 use Rattle.tables.specs.declared.InstanceTable.{InstanceTable}
 use Rattle.tables.specs.declared.RunTable.{RunTable}

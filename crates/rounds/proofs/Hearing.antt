@@ -1,7 +1,8 @@
 -- What a process hears, one law for each answer of the code over plain numbers: its premises are the tests that lead there. Assumes nothing.
 use mathlib.Core.Path.{_≡_, refl}
-use Prim.Native.Nat.{ℕ, _+_, _≤_, _<_}
+use Prim.Native.Nat.{ℕ, _+_, _-_, _≤_, _<_}
 use mathlib.Core.Bool.{true, false}
+use native.Mathlib.Omega.{arith}
 use borrow.Author.Tests.{eq-eqb, ne-eqb, lt-ltb, le-ltb}
 use Rattle.general.specs.Bits.{member}
 use Rattle.protocol.specs.Message.{nothing, Reach, none, dataOnly, all, arriving}
@@ -10,7 +11,7 @@ use Rattle.protocol.specs.Delivery.{reachAt, reachIn, reach}
 use Rattle.protocol.specs.Round.{State, sentBy, received}
 use Rattle.tables.specs.InstanceReading.{faultFrom}
 use Rattle.tables.specs.RunReading.{stateFrom}
-use Rattle.rounds.specs.Entries.{reachFrom, messagesFrom}
+use Rattle.rounds.specs.Heard.{reachFrom, messagesFrom}
 use Rattle.rounds.proofs.Cases.{crash-of-round, any-fault, any-ended}
 
 -- How far the messages to process p get of a coordinator that crashes at the point of a step, a set and a count.
@@ -27,13 +28,13 @@ module _ (n step set count p : ℕ) where
   unfolding reachFrom reachAt pointFrom
   at-step-1-out h m = rw (h, m)
 
-  pub at-step-2-in : (step ≡ 0 → ⊥) → (step ≡ 1 → ⊥) → n < p + count → reachFrom 2 ≡ reachAt n (pointFrom step set count) p
+  pub at-step-2-in : (step ≡ 0 → ⊥) → (step ≡ 1 → ⊥) → n - p < count → reachFrom 2 ≡ reachAt n (pointFrom step set count) p
   unfolding reachFrom reachAt pointFrom
-  at-step-2-in h g l = simp (ne-eqb, lt-ltb)
+  at-step-2-in h g l = let among : n < p + count = omega arith in simp (ne-eqb, lt-ltb)
 
-  pub at-step-2-out : (step ≡ 0 → ⊥) → (step ≡ 1 → ⊥) → p + count ≤ n → reachFrom 1 ≡ reachAt n (pointFrom step set count) p
+  pub at-step-2-out : (step ≡ 0 → ⊥) → (step ≡ 1 → ⊥) → p ≤ n → count ≤ n - p → reachFrom 1 ≡ reachAt n (pointFrom step set count) p
   unfolding reachFrom reachAt pointFrom
-  at-step-2-out h g l = simp (ne-eqb, le-ltb)
+  at-step-2-out h g m l = let beyond : p + count ≤ n = omega arith in simp (ne-eqb, le-ltb)
 
 -- How far the messages of coordinator r to process p get, by the fault of a crash round, a step, a set and a count.
 module _ (n r round step set count p : ℕ) where
@@ -41,10 +42,10 @@ module _ (n r round step set count p : ℕ) where
   unfolding reachFrom reach
   not-above h = simp le-ltb
 
-  pub coordinator-crashes : 1 ≤ r → r < p → round ≡ r → (code : ℕ) → reachFrom code ≡ reachAt n (pointFrom step set count) p
-      → reachFrom code ≡ reach n (faultFrom round step set count) r p
+  pub coordinator-crashes : 1 ≤ r → r < p → round ≡ r → (far : ℕ) → reachFrom far ≡ reachAt n (pointFrom step set count) p
+      → reachFrom far ≡ reach n (faultFrom round step set count) r p
   unfolding reach reachIn
-  coordinator-crashes g h e code k = rw (crash-of-round r round step set count g e) (simp (lt-ltb, eq-eqb) k)
+  coordinator-crashes g h e far k = rw (crash-of-round r round step set count g e) (simp (lt-ltb, eq-eqb) k)
 
   pub coordinator-stays : r < p → (round ≡ r → ⊥) → reachFrom 2 ≡ reach n (faultFrom round step set count) r p
   unfolding reach reachIn reachFrom
@@ -60,10 +61,10 @@ nothing-arrives all = refl
 
 -- What process p hears.
 module _ (n r : ℕ) (fault : Fault) (end ended value p : ℕ) where
-  pub from-undecided : end ≡ 0 → (code : ℕ) → reachFrom code ≡ reach n fault r p
-      → messagesFrom code value ≡ received n r fault (stateFrom end ended value) p
+  pub from-undecided : end ≡ 0 → (far : ℕ) → reachFrom far ≡ reach n fault r p
+      → messagesFrom far value ≡ received n r fault (stateFrom end ended value) p
   unfolding messagesFrom received stateFrom sentBy
-  from-undecided h code k = rw (h, k)
+  from-undecided h far k = rw (h, k)
 
   pub from-other : (end ≡ 0 → ⊥) → messagesFrom 0 value ≡ received n r fault (stateFrom end ended value) p
   unfolding messagesFrom reachFrom received sentBy arriving

@@ -6,7 +6,6 @@ use native.Mathlib.Omega.{arith}
 use lib.Dec.{ltb}
 use borrow.Author.Tests.{ltb-true, ltb-false}
 use lib.ListN.{length, getD}
-use Rattle.protocol.specs.Round.{State, undecided, stateOf}
 use Rattle.protocol.specs.Count.{isUndecided, anyUndecided}
 use Rattle.protocol.proofs.Ended.{none-undecided, not-any}
 use Rattle.tables.specs.declared.RunTable.{RunTable}

@@ -1,16 +1,14 @@
 -- A round on its way through the processes: those below p have gone through it, the others stand as the round began. What holds as it begins,
 -- after one process more and at the end. Assumes nothing.
-use mathlib.Core.List.{List}
 use mathlib.Core.Path.{_≡_, refl, sym, ap, _∙_}
-use Prim.Native.Nat.{ℕ, suc, _+_, _-_, _≤_, _<_}
+use Prim.Native.Nat.{ℕ, _+_, _-_, _≤_, _<_}
 use native.Mathlib.Omega.{arith}
 use mathlib.Core.Bool.{Bool, true, false}
 use lib.Dec.{ltb}
 use borrow.Author.Tests.{ltb-true, ltb-false}
-use lib.ListN.{length, getD, set, length-set}
+use lib.ListN.{length, length-set}
 use lib.Seq.{getD-set-same, getD-set-other}
 use Rattle.general.proofs.Indexed.{length-mapFrom}
-use Rattle.protocol.specs.Instance.{Instance, faultOf}
 use Rattle.protocol.specs.Round.{State, stateOf, received, after, statesAfter}
 use Rattle.protocol.proofs.Pointwise.{round-state}
 use Rattle.tables.specs.declared.InstanceTable.{InstanceTable}
@@ -112,9 +110,9 @@ module _ (x : InstanceTable) (r : ℕ) (run : RunTable) (h : 1 ≤ r) (g : r ≤
       ∙ rw (fault-at x q places a b, fault-at x r places h g, state-in (x .n) run r entries h g, state-in (x .n) run q entries a b, processes-of x)
 
   -- All have gone through it.
-  pub ends : (now : RunTable) (p : ℕ) → Underway x r run now p → x .n < p → runFrom (x .n) now ≡ withStates (instanceOf x) r (runFrom (x .n) run)
+  pub all-through : (now : RunTable) (p : ℕ) → Underway x r run now p → x .n < p → runFrom (x .n) now ≡ withStates (instanceOf x) r (runFrom (x .n) run)
   unfolding runFrom withStates statesAfter
-  ends now p way above = rw (states, way .rounds, way .speakers, way .sent, way .commits)
+  all-through now p way above = rw (states, way .rounds, way .speakers, way .sent, way .commits)
     where
       entries : x .n ≤ length (run .ends)
       entries = omega (arith, sized .ends)

@@ -1,13 +1,11 @@
 -- The whole run: its start, one round more, and its end, early or not; over the tables. Assumes nothing.
-use mathlib.Core.List.{List, map}
-use mathlib.Core.Path.{_≡_, refl, sym, ap, _∙_}
-use mathlib.Core.Bool.{Bool, true, false}
-use Prim.Native.Nat.{ℕ, suc, _+_, _-_, _*_, _≤_, _<_}
+use mathlib.Core.Path.{_≡_, sym, ap, _∙_}
+use mathlib.Core.Bool.{Bool, false}
+use Prim.Native.Nat.{ℕ, suc, _+_, _-_, _≤_, _<_}
 use native.Mathlib.Omega.{arith}
-use lib.ListN.{length, getD, take, replicate, length-map, length-take, length-replicate, getD-replicate}
+use lib.ListN.{length, getD, length-map}
 use lib.Seq.{getD-take, length-take-le}
-use Rattle.protocol.specs.Instance.{Instance}
-use Rattle.protocol.specs.Round.{State, undecided, stateOf}
+use Rattle.protocol.specs.Round.{undecided, stateOf}
 use Rattle.protocol.specs.Count.{anyUndecided}
 use Rattle.protocol.specs.Run.{Run, initial, withRound, runTo, runOf}
 use Rattle.protocol.specs.WellFormed.{WellFormed}

@@ -1,11 +1,7 @@
--- What the small structs stand for that the functions on one process hand over, and the numbers for what a process hears.
+-- The entries of one process in the tables, which the functions on one process take and give, and what they stand for.
 use Prim.Native.Nat.{ℕ, _-_}
-use mathlib.Core.Bool.{true, cond}
-use lib.Dec.{eqb}
 use lib.ListN.{getD, set}
-use Rattle.protocol.specs.Message.{Messages, Reach, none, dataOnly, all, arriving}
 use Rattle.protocol.specs.Instance.{Fault}
-use Rattle.protocol.specs.Transition.{sends}
 use Rattle.protocol.specs.Round.{State}
 use Rattle.tables.specs.declared.InstanceTable.{InstanceTable}
 use Rattle.tables.specs.declared.RunTable.{RunTable}
@@ -47,11 +43,3 @@ entryState s = stateFrom (s .end) (s .ended) (s .value)
 -- A process's entry of an instance table: its fault.
 abbrev pub entryFault : FaultEntry → Fault
 entryFault fault = faultFrom (fault .round) (fault .step) (fault .reached) (fault .count)
-
--- How far the messages to one process get: 0 no message, 1 the data message, 2 the commit too (document 01, 'A round').
-unfoldable pub reachFrom : ℕ → Reach
-reachFrom code = cond (eqb code 0) none (cond (eqb code 1) dataOnly all)
-
--- What a process hears of a coordinator that sends this value: nothing, data, or data then commit.
-unfoldable pub messagesFrom : (code value : ℕ) → Messages
-messagesFrom code value = arriving (reachFrom code) (sends true value)

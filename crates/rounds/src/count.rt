@@ -18,13 +18,13 @@ pub fn size(reached: u64) -> u8
     u64::count_ones(reached) as u8
 }
 
-// The data messages of a speaker with this fault in its round r.
-pub fn data_of(n: u8, r: u8, fault: FaultEntry) -> u8
-    requires { ⌜ (1 ≤ r) × (r ≤ n) ⌝ }
-    ensures { λ k. ⌜ k ≡ countIn dataAt (n - r) r (entryFault fault) ⌝ }
+// The data messages of a speaker with this fault in its round r; `whole` is the count of one that sends all.
+pub fn data_of(whole: u8, r: u8, fault: FaultEntry) -> u8
+    requires { ⌜ 1 ≤ r ⌝ }
+    ensures { λ k. ⌜ k ≡ countIn dataAt whole r (entryFault fault) ⌝ }
 {
     if fault.round != r {
-        return n - r;
+        return whole;
     }
     if fault.step == 0 {
         return 0;
@@ -32,16 +32,16 @@ pub fn data_of(n: u8, r: u8, fault: FaultEntry) -> u8
     if fault.step == 1 {
         return size(fault.reached);
     }
-    n - r
+    whole
 }
 
 // The commit messages of a speaker with this fault in its round r.
-pub fn commits_of(n: u8, r: u8, fault: FaultEntry) -> u8
-    requires { ⌜ (1 ≤ r) × (r ≤ n) ⌝ }
-    ensures { λ k. ⌜ k ≡ countIn commitsAt (n - r) r (entryFault fault) ⌝ }
+pub fn commits_of(whole: u8, r: u8, fault: FaultEntry) -> u8
+    requires { ⌜ 1 ≤ r ⌝ }
+    ensures { λ k. ⌜ k ≡ countIn commitsAt whole r (entryFault fault) ⌝ }
 {
     if fault.round != r {
-        return n - r;
+        return whole;
     }
     if fault.step <= 1 {
         return 0;
@@ -62,7 +62,7 @@ pub fn data_in(n: u8, r: u8, fault: FaultEntry, c: Entry) -> u8
     ensures { λ k. ⌜ k ≡ cond (isUndecided (entryState c)) (countIn dataAt (n - r) r (entryFault fault)) 0 ⌝ }
 {
     if c.end == 0 {
-        return data_of(n, r, fault);
+        return data_of(n - r, r, fault);
     }
     0
 }
@@ -73,7 +73,7 @@ pub fn commits_in(n: u8, r: u8, fault: FaultEntry, c: Entry) -> u8
     ensures { λ k. ⌜ k ≡ cond (isUndecided (entryState c)) (countIn commitsAt (n - r) r (entryFault fault)) 0 ⌝ }
 {
     if c.end == 0 {
-        return commits_of(n, r, fault);
+        return commits_of(n - r, r, fault);
     }
     0
 }

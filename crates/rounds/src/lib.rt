@@ -14,8 +14,8 @@ use tables::InstanceTable;
 use tables::RunTable;
 
 pub mod count;
-pub mod process;
 pub mod table;
+pub mod transition;
 
 // A process's entry of a run table: its end (00 undecided, 01 decided, 02 crashed), the round of it and its value.
 pub struct Entry {
@@ -88,7 +88,7 @@ pub fn with_states(x: InstanceTable, run: RunTable, r: u8) -> RunTable
     while p <= n {
         let own = table::fault_of(x, p);
         let s = table::entry_of(next, p);
-        let after = process::after_round(n, r, p, own, s, fault, c);
+        let after = transition::after_round(n, r, p, own, s, fault, c);
         next = table::with_entry(next, p, after);
         p += 1;
     }

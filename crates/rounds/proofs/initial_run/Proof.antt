@@ -1,3 +1,4 @@
+-- `rounds::initial_run` meets its contract. Assumes nothing.
 use mathlib.Core.Path.{refl}
 use native.Mathlib.Omega.{arith}
 use lib.ListN.{getD-replicate}
@@ -5,10 +6,7 @@ use borrow.Author.Needs.{needs}
 use Rattle.rounds.proofs.Whole.{starts}
 use Rattle.rounds.proofs.initial_run.Statement.{statement}
 use Rattle.rounds.proofs.initial_run.Tie as tie
-use Rattle.rounds.proofs.initial_run.Reads as reads
-use Rattle.rounds.proofs.initial_run.Lts as lts
 
--- src/lib.rt:109:1
 returns : tie.Need-returns
 returns c = starts _ _ (omega arith) (search needs) (search needs) (λ k h. getD-replicate 64 k 0 0 h) refl refl refl refl refl
 

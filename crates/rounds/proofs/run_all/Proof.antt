@@ -1,3 +1,4 @@
+-- `rounds::run_all` meets its contract. The loop's invariant: the table is the run as round r begins. Assumes nothing.
 use Prim.Native.Nat.{_+_, _-_}
 use native.Mathlib.Omega.{arith}
 use borrow.Author.Tests.{not-true}
@@ -5,11 +6,6 @@ use Rattle.rounds.proofs.Reading.{limits}
 use Rattle.rounds.proofs.Whole.{AtRound, at-first-round, round-allowed, at-next-round, ended-early, ended-late}
 use Rattle.rounds.proofs.run_all.Statement.{statement}
 use Rattle.rounds.proofs.run_all.Tie as tie
-use Rattle.rounds.proofs.run_all.Reads as reads
-use Rattle.rounds.proofs.run_all.Lts as lts
-use Rattle.rounds.proofs.any_undecided.Reads as any-undecided-reads
-use Rattle.rounds.proofs.initial_run.Reads as initial-run-reads
-use Rattle.rounds.proofs.run_round.Reads as run-round-reads
 
 abbrev Inv-loop : tie.InvT-loop
 Inv-loop x n last run₀ r₀ run r = AtRound x run r
@@ -17,43 +13,33 @@ Inv-loop x n last run₀ r₀ run r = AtRound x run r
 abbrev μ-loop : tie.MeasureT-loop
 μ-loop x n last run₀ r₀ run r = last + 1 - r
 
--- src/lib.rt:131:16
 add-last : tie.Need-add-last Inv-loop μ-loop
 add-last c = omega (arith, limits _ (c .before .pre))
 
--- src/lib.rt:132:9
 initial-run-requires : tie.Need-initial-run-requires Inv-loop μ-loop
 initial-run-requires c κs = omega (arith, limits _ (c .before .pre))
 
--- src/lib.rt:134:5
 loop-holds : tie.Need-loop-holds Inv-loop μ-loop
 loop-holds c = at-first-round _ _ (c .before .before .pre) (c .initial-run .ensures)
 
--- src/lib.rt:135:13
 any-undecided-requires : tie.Need-any-undecided-requires Inv-loop μ-loop
 any-undecided-requires c κs = omega (arith, limits _ (c .before .loop .inv .well-formed))
 
--- src/lib.rt:136:13
 returns : tie.Need-returns Inv-loop μ-loop
 returns c = ended-early _ _ _ (c .before .before .before .loop .inv) _ (c .before .any-undecided .ensures) (not-true _ (c .if1 .taken)) (omega arith)
 
--- src/lib.rt:138:9
 run-round-requires : tie.Need-run-round-requires Inv-loop μ-loop
 run-round-requires c κs = round-allowed _ _ _ (c .before .before .before .loop .inv) (omega arith)
 
--- src/lib.rt:139:9
 add-r : tie.Need-add-r Inv-loop μ-loop
 add-r c = omega (arith, limits _ (c .before .before .before .before .loop .inv .well-formed))
 
--- src/lib.rt:134:5
 loop-less : tie.Need-loop-less Inv-loop μ-loop
 loop-less c = omega arith
 
--- src/lib.rt:134:5
 loop-again : tie.Need-loop-again Inv-loop μ-loop
 loop-again c = at-next-round _ _ _ (c .before .before .before .before .loop .inv) _ (omega arith) (c .run-round .ensures)
 
--- src/lib.rt:126:1
 returns-2 : tie.Need-returns-2 Inv-loop μ-loop
 returns-2 c = ended-late _ _ _ (c .before .loop .inv) (omega arith)
 

@@ -1,15 +1,10 @@
+-- `rounds::with_states` meets its contract. The loop's invariant: the processes below p have gone through the round, the others stand as it began. Assumes nothing.
 use Prim.Native.Nat.{_≤_, _+_, _-_}
 use native.Mathlib.Omega.{arith}
 use borrow.Author.Needs.{needs}
-use Rattle.rounds.proofs.Underway.{Underway, begins, goes-on, ends}
+use Rattle.rounds.proofs.Underway.{Underway, begins, goes-on, all-through}
 use Rattle.rounds.proofs.with_states.Statement.{statement}
 use Rattle.rounds.proofs.with_states.Tie as tie
-use Rattle.rounds.proofs.with_states.Reads as reads
-use Rattle.rounds.proofs.with_states.Lts as lts
-use Rattle.rounds.proofs.process.after_round.Reads as after-round-reads
-use Rattle.rounds.proofs.table.entry_of.Reads as entry-of-reads
-use Rattle.rounds.proofs.table.fault_of.Reads as fault-of-reads
-use Rattle.rounds.proofs.table.with_entry.Reads as with-entry-reads
 
 abbrev Inv-loop : tie.InvT-loop
 Inv-loop x r n fault c next₀ p₀ next p = (1 ≤ p) × (p ≤ n + 1) × Underway x r next₀ next p
@@ -17,43 +12,33 @@ Inv-loop x r n fault c next₀ p₀ next p = (1 ≤ p) × (p ≤ n + 1) × Under
 abbrev μ-loop : tie.MeasureT-loop
 μ-loop x r n fault c next₀ p₀ next p = n + 1 - p
 
--- src/lib.rt:85:9
 fault-of-requires : tie.Need-fault-of-requires Inv-loop μ-loop
 fault-of-requires c κs = search needs
 
--- src/lib.rt:86:9
 entry-of-requires : tie.Need-entry-of-requires Inv-loop μ-loop
 entry-of-requires c κs = search needs
 
--- src/lib.rt:89:5
 loop-holds : tie.Need-loop-holds Inv-loop μ-loop
 loop-holds c = (omega arith, omega arith, begins _ _ _ (search needs))
 
--- src/lib.rt:90:13
 fault-of-requires-2 : tie.Need-fault-of-requires-2 Inv-loop μ-loop
 fault-of-requires-2 c κs = search needs
 
--- src/lib.rt:91:13
 entry-of-requires-2 : tie.Need-entry-of-requires-2 Inv-loop μ-loop
 entry-of-requires-2 c κs = search needs
 
--- src/lib.rt:92:13
 after-round-requires : tie.Need-after-round-requires Inv-loop μ-loop
 after-round-requires c κs = search needs
 
--- src/lib.rt:93:9
 with-entry-requires : tie.Need-with-entry-requires Inv-loop μ-loop
 with-entry-requires c κs = search needs
 
--- src/lib.rt:94:9
 add-p : tie.Need-add-p Inv-loop μ-loop
 add-p c = search needs
 
--- src/lib.rt:89:5
 loop-less : tie.Need-loop-less Inv-loop μ-loop
 loop-less c = search needs
 
--- src/lib.rt:89:5
 loop-again : tie.Need-loop-again Inv-loop μ-loop
 loop-again c =
     let head = c .before .before .before .before .before in (
@@ -65,9 +50,8 @@ loop-again c =
           (c .before .after-round .ensures) (c .with-entry .ensures),
     )
 
--- src/lib.rt:80:1
 returns : tie.Need-returns Inv-loop μ-loop
-returns c = ends _ _ _ (omega arith) (omega arith) (omega arith) (search needs) (search needs) _ _ (c .before .loop .inv .2) (omega arith)
+returns c = all-through _ _ _ (omega arith) (omega arith) (omega arith) (search needs) (search needs) _ _ (c .before .loop .inv .2) (omega arith)
 
 pub with-states-spec : {M : Type 1} → statement M
 with-states-spec =

@@ -1,27 +1,18 @@
+-- `rounds::count::commits_of` meets its contract: one law for each answer. Assumes nothing.
 use native.Mathlib.Omega.{arith}
 use borrow.Author.Needs.{needs}
 use Rattle.rounds.proofs.Counting.{sends-all, sends-some, commits-step-0-1, commits-step-2}
-use borrow.Author.Needs.{needs}
 use Rattle.rounds.proofs.count.commits_of.Statement.{statement}
 use Rattle.rounds.proofs.count.commits_of.Tie as tie
-use Rattle.rounds.proofs.count.commits_of.Reads as reads
-use Rattle.rounds.proofs.count.commits_of.Lts as lts
 
--- src/count.rt:45:16
-sub-result : tie.Need-sub-result
-sub-result c = search needs
-
--- src/count.rt:45:9
 returns : tie.Need-returns
 returns c = sends-all _ _ _ _ _ _ _ (search needs)
 
--- src/count.rt:48:9
 returns-2 : tie.Need-returns-2
 returns-2 c = sends-some _ _ _ _ _ _ _ (omega arith) (omega arith) _ (commits-step-0-1 _ _ _ _ (omega arith))
 
--- src/count.rt:40:1
 returns-3 : tie.Need-returns-3
 returns-3 c = sends-some _ _ _ _ _ _ _ (omega arith) (omega arith) _ (commits-step-2 _ _ _ _ (omega arith))
 
 pub commits-of-spec : {M : Type 1} → statement M
-commits-of-spec = tie.close (tie.spec sub-result returns returns-2 returns-3)
+commits-of-spec = tie.close (tie.spec returns returns-2 returns-3)

@@ -1,24 +1,19 @@
+-- `rounds::count::counts_as_crash` meets its contract: one law for each answer. Assumes nothing.
 use native.Mathlib.Omega.{arith}
 use borrow.Author.Needs.{needs}
 use Rattle.rounds.proofs.Counting.{no-line, idle-line, line-of-decided, line-of-other}
 use Rattle.rounds.proofs.count.counts_as_crash.Statement.{statement}
 use Rattle.rounds.proofs.count.counts_as_crash.Tie as tie
-use Rattle.rounds.proofs.count.counts_as_crash.Reads as reads
-use Rattle.rounds.proofs.count.counts_as_crash.Lts as lts
 
--- src/count.rt:87:9
 returns : tie.Need-returns
 returns c = no-line _ _ _ _ _ _ _ (omega arith)
 
--- src/count.rt:91:13
 returns-2 : tie.Need-returns-2
 returns-2 c = idle-line _ _ _ _ _ _ _ (search needs) (omega arith) (omega arith)
 
--- src/count.rt:83:1
 returns-3 : tie.Need-returns-3
 returns-3 c = line-of-decided _ _ _ _ _ _ _ (search needs) (omega arith) (omega arith)
 
--- src/count.rt:83:1
 returns-4 : tie.Need-returns-4
 returns-4 c = line-of-other _ _ _ _ _ _ _ (search needs) (search needs)
 

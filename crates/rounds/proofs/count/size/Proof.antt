@@ -1,19 +1,15 @@
-use native.Mathlib.Omega.{arith}
-use borrow.Author.Needs.{needs}
+-- `rounds::count::size` meets its contract: the language's count is that of the definitions, and of the list of members. Assumes nothing.
 use mathlib.Core.Path.{sym}
+use native.Mathlib.Omega.{arith}
 use lib.Count.{ones-le}
 use Rattle.protocol.proofs.SetSize.{ones64-ones}
 use Rattle.rounds.proofs.Ones.{word-members}
 use Rattle.rounds.proofs.count.size.Statement.{statement}
 use Rattle.rounds.proofs.count.size.Tie as tie
-use Rattle.rounds.proofs.count.size.Reads as reads
-use Rattle.rounds.proofs.count.size.Lts as lts
 
--- src/count.rt:19:5
 cast-result : tie.Need-cast-result
 cast-result c = omega (arith, ones-le 64 (c .args .reached) (c .fits .reached .fits))
 
--- src/count.rt:15:1
 returns : tie.Need-returns
 returns c = (sym (ones64-ones (c .args .reached) (c .fits .reached .fits)), word-members (c .args .reached) (c .fits .reached .fits))
 

@@ -1,24 +1,19 @@
+-- `rounds::transition::is_member` meets its contract. Assumes nothing.
 use mathlib.Core.Path.{refl}
-use Rattle.general.specs.Bits.{member}
 use borrow.Author.Needs.{needs}
-use Rattle.rounds.proofs.process.is_member.Statement.{statement}
-use Rattle.rounds.proofs.process.is_member.Tie as tie
-use Rattle.rounds.proofs.process.is_member.Reads as reads
-use Rattle.rounds.proofs.process.is_member.Lts as lts
+use Rattle.general.specs.Bits.{member}
+use Rattle.rounds.proofs.transition.is_member.Statement.{statement}
+use Rattle.rounds.proofs.transition.is_member.Tie as tie
 
--- src/process.rt:19:14
 sub-result : tie.Need-sub-result
 sub-result c = search needs
 
--- src/process.rt:19:14
 cast-result : tie.Need-cast-result
 cast-result c = search needs
 
--- src/process.rt:19:6
 shr-result : tie.Need-shr-result
 shr-result c = search needs
 
--- src/process.rt:15:1
 returns : tie.Need-returns
 unfolding member
 returns c = refl

@@ -1,12 +1,11 @@
 // What one process hears in a round, and what it becomes. Numbers alone: no table.
 ghost use mathlib.Core.Path.{_≡_};
 ghost use Prim.Native.Nat.{_≤_};
-ghost use mathlib.Core.Bool.{Bool};
 ghost use Rattle.general.specs.Bits.{member};
-ghost use Rattle.protocol.specs.Instance.{pointFrom};
-ghost use Rattle.protocol.specs.Delivery.{reachAt, reach};
+ghost use Rattle.protocol.specs.Delivery.{reach};
 ghost use Rattle.protocol.specs.Round.{received, after};
-ghost use Rattle.rounds.specs.Entries.{entryState, entryFault, reachFrom, messagesFrom};
+ghost use Rattle.rounds.specs.Entries.{entryState, entryFault};
+ghost use Rattle.rounds.specs.Heard.{reachFrom, messagesFrom};
 use crate::Entry;
 use crate::FaultEntry;
 
@@ -18,11 +17,18 @@ pub fn is_member(p: u8, set: u64) -> bool
     (set >> (p - 1)) % 2 == 1
 }
 
-// How far the messages to process p get of a coordinator that crashes at this point.
-pub fn reach_at(n: u8, fault: FaultEntry, p: u8) -> u8
-    requires { ⌜ (1 ≤ p) × (p ≤ n) × (n ≤ 64) ⌝ }
-    ensures { λ code. ⌜ reachFrom code ≡ reachAt n (pointFrom (fault .step) (fault .reached) (fault .count)) p ⌝ }
+// How far the messages of coordinator r, which has this fault, to process p get: 0 no message, 1 the data message, 2 the commit too.
+// Commits go to n, n - 1 and so on downward, so the first `count` of them go to the processes above n - count.
+pub fn reach_to(n: u8, r: u8, fault: FaultEntry, p: u8) -> u8
+    requires { ⌜ (1 ≤ r) × (1 ≤ p) × (p ≤ n) × (n ≤ 64) ⌝ }
+    ensures { λ far. ⌜ reachFrom far ≡ reach n (entryFault fault) r p ⌝ }
 {
+    if p <= r {
+        return 0;
+    }
+    if fault.round != r {
+        return 2;
+    }
     if fault.step == 0 {
         return 0;
     }
@@ -32,30 +38,16 @@ pub fn reach_at(n: u8, fault: FaultEntry, p: u8) -> u8
         }
         return 0;
     }
-    if (n as u16) < (p as u16) + (fault.count as u16) {
+    if n - p < fault.count {
         return 2;
     }
     1
 }
 
-// How far the messages of coordinator r to process p get.
-pub fn reach_to(n: u8, r: u8, fault: FaultEntry, p: u8) -> u8
-    requires { ⌜ (1 ≤ r) × (1 ≤ p) × (p ≤ n) × (n ≤ 64) ⌝ }
-    ensures { λ code. ⌜ reachFrom code ≡ reach n (entryFault fault) r p ⌝ }
-{
-    if p <= r {
-        return 0;
-    }
-    if fault.round == r {
-        return reach_at(n, fault, p);
-    }
-    2
-}
-
-// What process p hears in round r of the coordinator, which has this fault and began the round in the state c.
+// What process p hears in round r: how far the messages of the coordinator get, which has this fault and began the round in the state c.
 pub fn heard(n: u8, r: u8, fault: FaultEntry, c: Entry, p: u8) -> u8
     requires { ⌜ (1 ≤ r) × (1 ≤ p) × (p ≤ n) × (n ≤ 64) ⌝ }
-    ensures { λ code. ⌜ messagesFrom code (c .value) ≡ received n r (entryFault fault) (entryState c) p ⌝ }
+    ensures { λ far. ⌜ messagesFrom far (c .value) ≡ received n r (entryFault fault) (entryState c) p ⌝ }
 {
     if c.end == 0 {
         return reach_to(n, r, fault, p);
@@ -63,10 +55,10 @@ pub fn heard(n: u8, r: u8, fault: FaultEntry, c: Entry, p: u8) -> u8
     0
 }
 
-// What process p, with the fault `own`, becomes in round r on hearing this of the coordinator's value.
-pub fn on_hearing(r: u8, p: u8, own: FaultEntry, code: u8, value: u32, s: Entry) -> Entry
+// What process p, with the fault `own`, becomes in round r when the messages with this value get so far.
+pub fn on_hearing(r: u8, p: u8, own: FaultEntry, far: u8, value: u32, s: Entry) -> Entry
     requires { ⌜ 1 ≤ r ⌝ }
-    ensures { λ e. ⌜ entryState e ≡ after r p (entryFault own) (messagesFrom code value) (entryState s) ⌝ }
+    ensures { λ e. ⌜ entryState e ≡ after r p (entryFault own) (messagesFrom far value) (entryState s) ⌝ }
 {
     if s.end != 0 {
         return s;
@@ -85,10 +77,10 @@ pub fn on_hearing(r: u8, p: u8, own: FaultEntry, code: u8, value: u32, s: Entry)
             value: s.value,
         };
     }
-    if code == 0 {
+    if far == 0 {
         return s;
     }
-    if code == 1 {
+    if far == 1 {
         return Entry {
             end: 0,
             ended: 0,
