@@ -18,13 +18,22 @@ both true true e = (refl, refl)
 both true false e = absurd (let z : _≡_ {A = ℕ} 0 1 = cc in omega arith)
 both false b e = absurd (let z : _≡_ {A = ℕ} 0 1 = cc in omega arith)
 
--- Refusal 4 lets pass 1 ≤ n ≤ 64 and t < n.
-pub limits-hold : (n t : ℕ) → withinLimits n t ≡ true → (1 ≤ n) × (n ≤ 64) × (t < n)
+-- What refusal 4 lets pass.
+pub record Limits (n t : ℕ) : Type 0 where
+  pub some-process : 1 ≤ n
+  pub at-most-64 : n ≤ 64
+  pub fewer-crashes : t < n
+
+pub limits-hold : (n t : ℕ) → withinLimits n t ≡ true → Limits n t
 unfolding withinLimits
 limits-hold n t e =
     let outer = both _ _ e in
     let inner = both _ _ (outer .0) in
-    (leb-true _ _ (inner .0), leb-true _ _ (inner .1), ltb-true _ _ (outer .1))
+    record {
+      some-process = leb-true _ _ (inner .0);
+      at-most-64 = leb-true _ _ (inner .1);
+      fewer-crashes = ltb-true _ _ (outer .1);
+    }
 
 -- Refusal 8 at each step, as the two tests of the step turn out.
 point-allowed : (n p round reached count : ℕ) (atZero atOne : Bool)
@@ -42,9 +51,15 @@ point-allowed n p round reached count false false e h =
     let few : count ≤ n - p = leb-true _ _ (both (eqb reached 0) _ (outer .1) .1) in
     (eqb-true _ _ (outer .0), omega arith)
 
+-- What refusal 7 lets pass.
+pub record Placed (n t : ℕ) (l : FailureLine) : Type 0 where
+  pub process-from-1 : 1 ≤ l .process
+  pub process-to-n : l .process ≤ n
+  pub round-from-1 : 1 ≤ l .round
+  pub round-to-last : l .round ≤ suc t
+
 module _ (n t last : ℕ) (l : FailureLine) (placed : placesCrash n t last l ≡ true) where
-  -- Refusal 7 lets pass a process, a round and a step within their limits.
-  pub crash-placed : (1 ≤ l .process) × (l .process ≤ n) × (1 ≤ l .round) × (l .round ≤ suc t)
+  pub crash-placed : Placed n t l
   unfolding placesCrash
   crash-placed =
       let steps = both _ _ placed in
@@ -52,16 +67,21 @@ module _ (n t last : ℕ) (l : FailureLine) (placed : placesCrash n t last l ≡
       let first = both _ _ (rounds .0) in
       let rising = both _ _ (first .0) in
       let inside = both _ _ (rising .0) in
-      (leb-true _ _ (inside .0), leb-true _ _ (inside .1), leb-true _ _ (first .1), leb-true _ _ (rounds .1))
+      record {
+        process-from-1 = leb-true _ _ (inside .0);
+        process-to-n = leb-true _ _ (inside .1);
+        round-from-1 = leb-true _ _ (first .1);
+        round-to-last = leb-true _ _ (rounds .1);
+      }
 
   -- Refusals 7 and 8 let pass a fault that is allowed.
   pub crash-allowed : suitsStep n l ≡ true
       → FaultAllowed n t (l .process) (crashes (l .round) (pointFrom (l .step) (l .reached) (l .count)))
   unfolding suitsStep FaultAllowed pointFrom
   crash-allowed e = (
-    crash-placed .2,
-    crash-placed .3,
-    point-allowed n (l .process) (l .round) (l .reached) (l .count) (eqb (l .step) 0) (eqb (l .step) 1) e (crash-placed .1),
+    crash-placed .round-from-1,
+    crash-placed .round-to-last,
+    point-allowed n (l .process) (l .round) (l .reached) (l .count) (eqb (l .step) 0) (eqb (l .step) 1) e (crash-placed .process-to-n),
   )
 
 -- A fault that is stated where there was another adds at most one.

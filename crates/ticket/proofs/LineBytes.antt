@@ -13,9 +13,19 @@ use Rattle.general.specs.BigEndian.{number, numberFrom}
 use Rattle.lines.specs.Digit.{digitValue, isDigit}
 use Rattle.lines.specs.Line.{Line, bytes, noLine, Scan, even, odd, broken, scan, closed, unclosed, linesFrom, linesOf}
 
+-- Every number of the list is below the bound.
+abbrev pub AllBelow : ℕ → List ℕ → Type 0
+AllBelow bound l = (i : ℕ) → getD l i 0 < bound
+
 -- Every number of the list is a byte.
 abbrev pub Bytes : List ℕ → Type 0
-Bytes b = (i : ℕ) → getD b i 0 < 256
+Bytes b = AllBelow 256 b
+
+pub below-snoc : (bound : ℕ) (l : List ℕ) (v : ℕ) → AllBelow bound l → v < bound → AllBelow bound (l ++ (v ∷ []))
+below-snoc bound [] v h g zero = g
+below-snoc bound [] v h g (suc i) = omega arith
+below-snoc bound (a ∷ l) v h g zero = h 0
+below-snoc bound (a ∷ l) v h g (suc i) = below-snoc bound l v (λ j. h (suc j)) g i
 
 -- Every line of the list gives bytes, or nothing.
 unfoldable pub Lines : List Line → Type 0
@@ -29,12 +39,6 @@ Scanned (even b) = Bytes b
 Scanned (odd b high) = Bytes b × (high ≤ 15)
 Scanned broken = Unit {0}
 
-bytes-snoc : (b : List ℕ) (v : ℕ) → Bytes b → v < 256 → Bytes (b ++ (v ∷ []))
-bytes-snoc [] v h g zero = g
-bytes-snoc [] v h g (suc i) = omega arith
-bytes-snoc (a ∷ b) v h g zero = h 0
-bytes-snoc (a ∷ b) v h g (suc i) = bytes-snoc b v (λ j. h (suc j)) g i
-
 scanned-even : (b : List ℕ) (c : ℕ) (digit : Bool) → isDigit c ≡ digit → Bytes b → Scanned (cond digit (odd b (digitValue c)) broken)
 unfolding Scanned isDigit
 scanned-even b c true e h = (h, leb-true _ _ e)
@@ -43,7 +47,7 @@ scanned-even b c false e h = tt
 scanned-odd : (b : List ℕ) (high c : ℕ) (digit : Bool) → isDigit c ≡ digit → Bytes b → high ≤ 15
     → Scanned (cond digit (even (b ++ ((high * 16 + digitValue c) ∷ []))) broken)
 unfolding Scanned isDigit
-scanned-odd b high c true e h g = let d : digitValue c ≤ 15 = leb-true _ _ e in bytes-snoc b _ h (omega arith)
+scanned-odd b high c true e h g = let d : digitValue c ≤ 15 = leb-true _ _ e in below-snoc 256 b _ h (omega arith)
 scanned-odd b high c false e h g = tt
 
 scan-keeps : (s : Scan) (c : ℕ) → Scanned s → Scanned (scan s c)

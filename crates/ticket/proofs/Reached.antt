@@ -37,9 +37,9 @@ pub allowed-places : (place : Place) (table : InstanceTable) → length (table .
 unfolding StageAllowed stageOf HasPlaces instanceOf
 allowed-places Header table h g = tt
 allowed-places (Proposals count) table h g =
-    let few : min count (length (table .values)) < table .n = rw length-take at (g .4) in
-    (omega arith, g .1)
-allowed-places (Failures lines last) table h g = g .0 .at-most-64
+    let few : min count (length (table .values)) < table .n = rw length-take at (g .some-missing) in
+    (omega arith, g .limits .at-most-64)
+allowed-places (Failures lines last) table h g = g .well-formed .at-most-64
 allowed-places Ended table h g = tt
 
 -- The reading stands at line k, which begins at `at`: what is left is read on from here.

@@ -2,7 +2,7 @@
 use mathlib.Core.List.{List, [], _∷_, _++_}
 use mathlib.Core.Path.{_≡_, refl, subst}
 use mathlib.Core.Bool.{Bool, true, false, cond}
-use Prim.Native.Nat.{ℕ, zero, suc, _-_, _^_, _≤_, _<_}
+use Prim.Native.Nat.{ℕ, suc, _-_, _^_, _≤_, _<_}
 use native.Mathlib.Omega.{arith}
 use lib.Dec.{eqb, ltb, leb}
 use lib.ListN.{length, getD, drop, replicate, length-append, length-set, length-replicate, length-drop, getD-replicate}
@@ -14,24 +14,37 @@ use Rattle.lines.specs.Line.{linesOf}
 use Rattle.ticket.specs.Reading.{accepted, refused, next, readFrom}
 use Rattle.ticket.specs.Accept.{Stage, header, proposals, failures, ended, isKind, acceptHeader, afterProposal, acceptProposal, FailureLine, failureLine, placesCrash, suitsStep, withCrash, acceptCrash, acceptFailure, accept}
 use Rattle.ticket.specs.Ticket.{ticketLimit, atEnd, readTicket}
-use Rattle.ticket.proofs.LineBytes.{Bytes, lines-bytes, drop-bytes, number-below}
+use Rattle.ticket.proofs.LineBytes.{AllBelow, Bytes, below-snoc, lines-bytes, drop-bytes, number-below}
 use Rattle.ticket.proofs.Keeping.{Keeps, Gives, keeps-if, keeps-unless, keeps-either, reading-gives}
-use Rattle.ticket.proofs.CrashAllowed.{both, limits-hold, crash-placed, crash-allowed, count-set, count-none, allowed-set}
+use Rattle.ticket.proofs.CrashAllowed.{both, Limits, limits-hold, crash-placed, crash-allowed, count-set, count-none, allowed-set}
 
 -- All values fit four bytes.
 abbrev ValuesFit : List ℕ → Type 0
-ValuesFit values = (p : ℕ) → getD values p 0 < 2 ^ 32
+ValuesFit values = AllBelow (2 ^ 32) values
+
+-- What is known after some proposals.
+pub record ProposalsAllowed (n t : ℕ) (values : List ℕ) : Type 0 where
+  pub limits : Limits n t
+  pub values-fit : ValuesFit values
+  pub some-missing : length values < n
+
+-- What is known after so many failure lines.
+pub record FailuresAllowed (x : Instance) (lines : ℕ) : Type 0 where
+  pub well-formed : WellFormed x
+  pub counted : faultCount (x .pattern) ≤ lines
 
 -- What is known at each stage of a ticket.
 unfoldable pub StageAllowed : Stage → Type 0
 StageAllowed header = Unit {0}
-StageAllowed (proposals n t values) = (1 ≤ n) × (n ≤ 64) × (t < n) × ValuesFit values × (length values < n)
-StageAllowed (failures x lines last) = WellFormed x × (faultCount (x .pattern) ≤ lines)
+StageAllowed (proposals n t values) = ProposalsAllowed n t values
+StageAllowed (failures x lines last) = FailuresAllowed x lines
 StageAllowed (ended x) = WellFormed x
 
 header-next : (n t : ℕ) → withinLimits n t ≡ true → Keeps StageAllowed (next (proposals n t []))
 unfolding Keeps StageAllowed
-header-next n t e = let within = limits-hold n t e in (within .0, within .1, within .2, λ p. omega arith, omega arith)
+header-next n t e =
+    let within = limits-hold n t e in
+    record { limits = within; values-fit = λ p. omega arith; some-missing = omega arith }
 
 header-keeps : (b : List ℕ) → Keeps StageAllowed (acceptHeader b)
 unfolding acceptHeader
@@ -40,7 +53,7 @@ header-keeps b =
     keeps-if StageAllowed (withinLimits (getD b 1 0) (getD b 2 0)) 4 _ (header-next _ _)
 
 -- The instance after the last proposal, without any crash.
-module _ (n t : ℕ) (values : List ℕ) (known : (1 ≤ n) × (n ≤ 64) × (t < n)) (fit : ValuesFit values)
+module _ (n t : ℕ) (values : List ℕ) (limits : Limits n t) (fit : ValuesFit values)
     (some-left : length values ≤ n) where
   abbrev withoutCrash : Instance
   withoutCrash = record { processes = n; resilience = t; proposals = values; pattern = replicate n correct }
@@ -49,9 +62,9 @@ module _ (n t : ℕ) (values : List ℕ) (known : (1 ≤ n) × (n ≤ 64) × (t 
   unfolding FaultAllowed faultOf
   without-crash e =
       record {
-        some-process = known .0;
-        at-most-64 = known .1;
-        fewer-crashes = known .2;
+        some-process = limits .some-process;
+        at-most-64 = limits .at-most-64;
+        fewer-crashes = limits .fewer-crashes;
         all-propose = e;
         all-have-fault = length-replicate n correct;
         values-fit = fit;
@@ -62,14 +75,10 @@ module _ (n t : ℕ) (values : List ℕ) (known : (1 ≤ n) × (n ≤ 64) × (t 
   proposal-next : (whole : Bool) → eqb (length values) n ≡ whole
       → StageAllowed (cond whole (failures withoutCrash 0 0) (proposals n t values))
   unfolding StageAllowed
-  proposal-next true e = (without-crash (eqb-true _ _ e), rw count-none (omega arith))
-  proposal-next false e = let missing : length values ≡ n → ⊥ = eqb-false _ _ e in (known .0, known .1, known .2, fit, omega (arith, missing))
-
-values-snoc : (values : List ℕ) (v : ℕ) → ValuesFit values → v < 2 ^ 32 → ValuesFit (values ++ (v ∷ []))
-values-snoc [] v h g zero = g
-values-snoc [] v h g (suc p) = omega arith
-values-snoc (w ∷ values) v h g zero = h 0
-values-snoc (w ∷ values) v h g (suc p) = values-snoc values v (λ q. h (suc q)) g p
+  proposal-next true e = record { well-formed = without-crash (eqb-true _ _ e); counted = rw count-none (omega arith) }
+  proposal-next false e =
+      let missing : length values ≡ n → ⊥ = eqb-false _ _ e in
+      record { limits = limits; values-fit = fit; some-missing = omega (arith, missing) }
 
 -- The value of a proposal line fits four bytes.
 value-fits : (b : List ℕ) → Bytes b → isKind 2 6 b ≡ true → number (drop 2 b) < 2 ^ 32
@@ -84,43 +93,47 @@ unfolding acceptProposal StageAllowed Keeps afterProposal
 proposal-keeps n t values b h g =
     keeps-if StageAllowed (isKind 2 6 b) 3 _ λ kind.
     keeps-if StageAllowed (eqb (getD b 1 0) (suc (length values))) 5 _ λ _.
-    proposal-next n t (values ++ (number (drop 2 b) ∷ [])) (g .0, g .1, g .2) (values-snoc values _ (g .3) (value-fits b h kind))
+    proposal-next n t (values ++ (number (drop 2 b) ∷ [])) (g .limits) (below-snoc (2 ^ 32) values _ (g .values-fit) (value-fits b h kind))
     (rw length-append (omega arith)) _ refl
 
 -- The instance with a failure line that refusals 6 to 8 let pass.
-with-crash : (x : Instance) (lines last : ℕ) (l : FailureLine) → WellFormed x → faultCount (x .pattern) ≤ lines → lines < x .resilience
-    → placesCrash (x .processes) (x .resilience) last l ≡ true → suitsStep (x .processes) l ≡ true → StageAllowed (failures (withCrash x l) (suc lines) (l .process))
-unfolding StageAllowed withCrash faultOf
-with-crash x lines last l w few less placed suits =
-    let fault = crashes (l .round) (pointFrom (l .step) (l .reached) (l .count)) in
-    let more = count-set (x .pattern) (l .process - 1) fault in
-    let limits = crash-placed (x .processes) (x .resilience) last l placed in (
+module _ (x : Instance) (lines last : ℕ) (l : FailureLine) (known : FailuresAllowed x lines) where
+  with-crash : lines < x .resilience → placesCrash (x .processes) (x .resilience) last l ≡ true → suitsStep (x .processes) l ≡ true
+      → FailuresAllowed (withCrash x l) (suc lines)
+  unfolding withCrash faultOf
+  with-crash less placed suits =
+      let w = known .well-formed in
+      let fault = crashes (l .round) (pointFrom (l .step) (l .reached) (l .count)) in
+      let more = count-set (x .pattern) (l .process - 1) fault in
+      let here = crash-placed (x .processes) (x .resilience) last l placed in
+      let allowed = crash-allowed (x .processes) (x .resilience) last l placed suits in
       record {
-        some-process = w .some-process;
-        at-most-64 = w .at-most-64;
-        fewer-crashes = w .fewer-crashes;
-        all-propose = w .all-propose;
-        all-have-fault = rw length-set (w .all-have-fault);
-        values-fit = w .values-fit;
-        faults-allowed = λ p h g. allowed-set (FaultAllowed (x .processes) (x .resilience)) (x .pattern) (l .process) fault p (limits .0) h (rw (w .all-have-fault) g)
-            (crash-allowed (x .processes) (x .resilience) last l placed suits) (w .faults-allowed p h g);
-        few-faults = omega arith;
-      },
-      omega arith,
-    )
+        well-formed = record {
+          some-process = w .some-process;
+          at-most-64 = w .at-most-64;
+          fewer-crashes = w .fewer-crashes;
+          all-propose = w .all-propose;
+          all-have-fault = rw length-set (w .all-have-fault);
+          values-fit = w .values-fit;
+          faults-allowed = λ p h g. allowed-set (FaultAllowed (x .processes) (x .resilience)) (x .pattern) (l .process) fault p
+              (here .process-from-1) h (rw (w .all-have-fault) g) allowed (w .faults-allowed p h g);
+          few-faults = omega arith;
+        };
+        counted = omega arith;
+      }
 
-crash-keeps : (x : Instance) (lines last : ℕ) (l : FailureLine) → StageAllowed (failures x lines last) → Keeps StageAllowed (acceptCrash x lines last l)
-unfolding acceptCrash StageAllowed Keeps
-crash-keeps x lines last l g =
-    keeps-unless StageAllowed (leb (x .resilience) lines) 6 _ λ less.
-    keeps-if StageAllowed (placesCrash (x .processes) (x .resilience) last l) 7 _ λ placed.
-    keeps-if StageAllowed (suitsStep (x .processes) l) 8 _ λ suits.
-    with-crash x lines last l (g .0) (g .1) (leb-false _ _ less) placed suits
+  crash-keeps : Keeps StageAllowed (acceptCrash x lines last l)
+  unfolding acceptCrash StageAllowed Keeps
+  crash-keeps =
+      keeps-unless StageAllowed (leb (x .resilience) lines) 6 _ λ less.
+      keeps-if StageAllowed (placesCrash (x .processes) (x .resilience) last l) 7 _ λ placed.
+      keeps-if StageAllowed (suitsStep (x .processes) l) 8 _ λ suits.
+      with-crash (leb-false _ _ less) placed suits
 
 failure-keeps : (x : Instance) (lines last : ℕ) (b : List ℕ) → StageAllowed (failures x lines last) → Keeps StageAllowed (acceptFailure x lines last b)
 unfolding acceptFailure Keeps StageAllowed
 failure-keeps x lines last b g =
-    keeps-either StageAllowed (isKind 4 1 b) (next (ended x)) _ (g .0)
+    keeps-either StageAllowed (isKind 4 1 b) (next (ended x)) _ (g .well-formed)
     (keeps-if StageAllowed (isKind 3 13 b) 3 _ λ _. crash-keeps x lines last (failureLine b) g)
 
 -- A line of bytes keeps what is known.

@@ -35,6 +35,7 @@ pub struct LineTaken {
     pub table: InstanceTable,
 }
 
+// A line that is refused.
 fn refused(number: u8, table: InstanceTable) -> LineTaken
     ensures { λ r. ⌜ stepOf r ≡ refuse number ⌝ }
 {
@@ -143,10 +144,10 @@ fn crash_line(l: CrashLine, lines: u8, last: u8, table: InstanceTable) -> LineTa
 {
     let n = table.n;
     let t = table.t;
+    let placed = checks::places_crash(n, t, last, l);
     if t <= lines {
         return refused(6, table);
     }
-    let placed = checks::places_crash(n, t, last, l);
     if !placed {
         return refused(7, table);
     }
@@ -154,8 +155,9 @@ fn crash_line(l: CrashLine, lines: u8, last: u8, table: InstanceTable) -> LineTa
     if !suits {
         return refused(8, table);
     }
+    let counted = lines + 1;
     LineTaken {
-        answer: LineAnswer::Next(Place::Failures(lines + 1, l.process)),
+        answer: LineAnswer::Next(Place::Failures(counted, l.process)),
         table: with_crash(table, l),
     }
 }

@@ -1,22 +1,14 @@
 -- `read_ticket` meets its contract: the loop keeps that what is left is read on from here. Assumes nothing.
 use mathlib.Core.Path.{_≡_, sym, _∙_}
-use Rattle.lines.specs.LineAt.{LineAt}
-use Rattle.lines.proofs.Read.{read-line}
-use Rattle.ticket.proofs.Reached.{too-long, allowed-places, reached-start, reached-end, reached-no-line, reached-refused, reached-next}
 use Prim.Native.Nat.{_-_}
 use native.Mathlib.Omega.{arith}
-use borrow.Author.Needs.{needs}
 use lib.ListN.{length}
-use Rattle.ticket.proofs.Reached.{Reached}
+use borrow.Author.Needs.{needs}
+use Rattle.lines.specs.LineAt.{LineAt}
+use Rattle.lines.proofs.Read.{read-line}
+use Rattle.ticket.proofs.Reached.{too-long, allowed-places, reached-start, reached-end, reached-no-line, reached-refused, reached-next, Reached}
 use Rattle.ticket.proofs.read_ticket.Statement.{statement}
 use Rattle.ticket.proofs.read_ticket.Tie as tie
-use Rattle.ticket.proofs.read_ticket.Reads as reads
-use Rattle.ticket.proofs.read_ticket.Lts as lts
-use Rattle.lines.proofs.Cursor.new.Reads as new-reads
-use Rattle.lines.proofs.Cursor.read.Reads as read-reads
-use Rattle.ticket.proofs.accept.accept_line.Reads as accept-line-reads
-use Rattle.ticket.proofs.blank.Reads as blank-reads
-use Rattle.ticket.proofs.finished.Reads as finished-reads
 
 abbrev Inv-loop : tie.InvT-loop
 Inv-loop text table₀ here₀ place₀ k₀ table here place k = Reached text table (here .at) place k
@@ -54,10 +46,14 @@ enum-told : tie.Need-enum-told Inv-loop μ-loop
 enum-told c = search needs
 
 returns-2 : tie.Need-returns-2 Inv-loop μ-loop
-returns-2 c = reached-no-line _ _ _ _ _ (c .before .before .before .before .before .loop .inv) (omega arith) (sym (c .enum-told .given .1) ∙ c .before .before .read .ensures)
+returns-2 c =
+    let answered = c .before .before in
+    reached-no-line _ _ _ _ _ (answered .before .before .before .loop .inv) (omega arith) (sym (c .enum-told .given .1) ∙ answered .read .ensures)
 
 accept-line-requires : tie.Need-accept-line-requires Inv-loop μ-loop
-accept-line-requires c κs = (line-here (c .before) .holds, allowed-places _ _ (c .before .before .before .before .before .before .loop .inv .places) (c .before .before .before .before .before .before .loop .inv .allowed))
+accept-line-requires c κs =
+    let here = c .before .before .before .before .before .before .loop .inv in
+    (line-here (c .before) .holds, allowed-places _ _ (here .places) (here .allowed))
 
 enum-known-answer : tie.Need-enum-known-answer Inv-loop μ-loop
 enum-known-answer c = search needs
@@ -66,7 +62,10 @@ enum-known-answer-2 : tie.Need-enum-known-answer-2 Inv-loop μ-loop
 enum-known-answer-2 c = search needs
 
 returns-3 : tie.Need-returns-3 Inv-loop μ-loop
-returns-3 c = reached-refused _ _ _ _ _ (c .before .before .before .before .before .before .before .before .before .before .before .loop .inv) _ _ (line-here (c .before .before .before .before .before .before)) _ _ (c .before .before .before .before .accept-line .ensures) _ (c .before .answer2 .given .1)
+returns-3 c =
+    let taken = c .before .before .before .before in
+    let line = taken .before .before in
+    reached-refused _ _ _ _ _ (line .before .before .before .before .before .loop .inv) _ _ (line-here line) _ _ (taken .accept-line .ensures) _ (c .before .answer2 .given .1)
 
 add-k : tie.Need-add-k Inv-loop μ-loop
 add-k c = search needs
@@ -77,7 +76,9 @@ loop-less c = let line = line-here (c .before .before .before .before .before .b
 loop-again : tie.Need-loop-again Inv-loop μ-loop
 loop-again c =
     let places : length (c .before .before .before .before .accept-line .result .table .values) ≡ 64 = search needs in
-    reached-next _ _ _ _ _ (c .before .before .before .before .before .before .before .before .before .before .before .loop .inv) _ _ (line-here (c .before .before .before .before .before .before)) _ _ (c .before .before .before .before .accept-line .ensures) _ (c .before .answer .given .1) places
+    let taken = c .before .before .before .before in
+    let line = taken .before .before in
+    reached-next _ _ _ _ _ (line .before .before .before .before .before .loop .inv) _ _ (line-here line) _ _ (taken .accept-line .ensures) _ (c .before .answer .given .1) places
 
 finished-requires : tie.Need-finished-requires Inv-loop μ-loop
 finished-requires c κs = search needs

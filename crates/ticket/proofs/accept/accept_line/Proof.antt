@@ -1,15 +1,9 @@
 -- `accept_line` meets its contract. Assumes nothing.
 use mathlib.Core.Path.{_∙_}
-use Rattle.ticket.proofs.PlaceStages.{has-proposals, has-failures, at-header, at-proposals, at-failures, past-end}
 use borrow.Author.Needs.{needs}
+use Rattle.ticket.proofs.PlaceStages.{has-proposals, has-failures, at-header, at-proposals, at-failures, past-end}
 use Rattle.ticket.proofs.accept.accept_line.Statement.{statement}
 use Rattle.ticket.proofs.accept.accept_line.Tie as tie
-use Rattle.ticket.proofs.accept.accept_line.Reads as reads
-use Rattle.ticket.proofs.accept.accept_line.Lts as lts
-use Rattle.ticket.proofs.accept.failure_line.Reads as failure-line-reads
-use Rattle.ticket.proofs.accept.header_line.Reads as header-line-reads
-use Rattle.ticket.proofs.accept.proposal_line.Reads as proposal-line-reads
-use Rattle.ticket.proofs.accept.refused.Reads as refused-reads
 
 enum-told : tie.Need-enum-told
 enum-told c = search needs

@@ -4,10 +4,6 @@ use Rattle.lines.proofs.Bytes.{holds-part}
 use Rattle.ticket.proofs.LineAnswers.{crash-fields}
 use Rattle.ticket.proofs.accept.crash_fields.Statement.{statement}
 use Rattle.ticket.proofs.accept.crash_fields.Tie as tie
-use Rattle.ticket.proofs.accept.crash_fields.Reads as reads
-use Rattle.ticket.proofs.accept.crash_fields.Lts as lts
-use Rattle.lines.proofs.line_byte.Reads as line-byte-reads
-use Rattle.lines.proofs.line_word.Reads as line-word-reads
 
 line-byte-requires : tie.Need-line-byte-requires
 line-byte-requires c κs = holds-part _ _ _ 1 1 (c .before .pre) (omega arith)

@@ -1,18 +1,12 @@
 -- `failure_line` meets its contract. Assumes nothing.
 use mathlib.Core.Path.{_∙_, sym}
 use native.Mathlib.Omega.{arith}
+use borrow.Author.Needs.{needs}
 use Rattle.lines.proofs.Bytes.{holds-front, holds-part}
 use Rattle.ticket.specs.Progress.{stageOf}
 use Rattle.ticket.proofs.LineAnswers.{failure-size, failure-short, failure-end, failure-kind, failure-crash}
-use borrow.Author.Needs.{needs}
 use Rattle.ticket.proofs.accept.failure_line.Statement.{statement}
 use Rattle.ticket.proofs.accept.failure_line.Tie as tie
-use Rattle.ticket.proofs.accept.failure_line.Reads as reads
-use Rattle.ticket.proofs.accept.failure_line.Lts as lts
-use Rattle.lines.proofs.line_byte.Reads as line-byte-reads
-use Rattle.ticket.proofs.accept.crash_fields.Reads as crash-fields-reads
-use Rattle.ticket.proofs.accept.crash_line.Reads as crash-line-reads
-use Rattle.ticket.proofs.accept.refused.Reads as refused-reads
 
 line-byte-requires : tie.Need-line-byte-requires
 line-byte-requires c κs = holds-part _ _ _ 0 1 (c .before .before .pre .0) (omega arith)

@@ -1,17 +1,12 @@
 -- `header_line` meets its contract. Assumes nothing.
-use Rattle.ticket.specs.Progress.{stageOf}
 use mathlib.Core.Path.{_∙_, sym}
 use native.Mathlib.Omega.{arith}
-use Rattle.lines.proofs.Bytes.{holds-part}
-use Rattle.ticket.proofs.LineAnswers.{header-size, header-kind, header-limits, header-next}
 use borrow.Author.Needs.{needs}
+use Rattle.lines.proofs.Bytes.{holds-part}
+use Rattle.ticket.specs.Progress.{stageOf}
+use Rattle.ticket.proofs.LineAnswers.{header-size, header-kind, header-limits, header-next}
 use Rattle.ticket.proofs.accept.header_line.Statement.{statement}
 use Rattle.ticket.proofs.accept.header_line.Tie as tie
-use Rattle.ticket.proofs.accept.header_line.Reads as reads
-use Rattle.ticket.proofs.accept.header_line.Lts as lts
-use Rattle.lines.proofs.line_byte.Reads as line-byte-reads
-use Rattle.ticket.proofs.accept.refused.Reads as refused-reads
-use Rattle.ticket.proofs.checks.within_limits.Reads as within-limits-reads
 
 refused-requires : tie.Need-refused-requires
 refused-requires c κs = search needs
@@ -41,11 +36,24 @@ refused-requires-3 : tie.Need-refused-requires-3
 refused-requires-3 c κs = search needs
 
 returns-3 : tie.Need-returns-3
-returns-3 c = c .refused3 .ensures ∙ sym (header-limits _ _ _ (omega arith) _ (c .before .before .before .before .before .before .line-byte .ensures) (omega arith) _ _ (c .before .before .before .before .line-byte2 .ensures) (c .before .before .before .line-byte3 .ensures) _ (c .before .before .within-limits .ensures) (c .before .if3 .taken))
+returns-3 c =
+    let checked = c .before .before in
+    let t = checked .before in
+    let n = t .before in
+    let kind = n .before .before in
+    c .refused3 .ensures
+    ∙ sym (header-limits _ _ _ (omega arith) _ (kind .line-byte .ensures) (omega arith) _ _ (n .line-byte2 .ensures) (t .line-byte3 .ensures) _
+    (checked .within-limits .ensures) (c .before .if3 .taken))
 
 returns-4 : tie.Need-returns-4
 unfolding stageOf
-returns-4 c = sym (header-next _ _ _ (omega arith) _ (c .before .before .before .before .before .line-byte .ensures) (omega arith) _ _ (c .before .before .before .line-byte2 .ensures) (c .before .before .line-byte3 .ensures) _ (c .before .within-limits .ensures) (c .if3 .left))
+returns-4 c =
+    let checked = c .before in
+    let t = checked .before in
+    let n = t .before in
+    let kind = n .before .before in
+    sym (header-next _ _ _ (omega arith) _ (kind .line-byte .ensures) (omega arith) _ _ (n .line-byte2 .ensures) (t .line-byte3 .ensures) _
+    (checked .within-limits .ensures) (c .if3 .left))
 
 pub header-line-spec : {M : Type 1} → statement M
 header-line-spec =

@@ -3,18 +3,12 @@ use mathlib.Core.Path.{_≡_, sym, _∙_}
 use native.Mathlib.Omega.{arith}
 use lib.ListN.{length, take}
 use lib.Seq.{length-take-le}
+use borrow.Author.Needs.{needs}
 use Rattle.lines.proofs.Bytes.{holds-part}
 use Rattle.lines.proofs.Word.{number-small}
 use Rattle.ticket.proofs.LineAnswers.{proposal-size, proposal-kind, proposal-order, proposal-next}
-use borrow.Author.Needs.{needs}
 use Rattle.ticket.proofs.accept.proposal_line.Statement.{statement}
 use Rattle.ticket.proofs.accept.proposal_line.Tie as tie
-use Rattle.ticket.proofs.accept.proposal_line.Reads as reads
-use Rattle.ticket.proofs.accept.proposal_line.Lts as lts
-use Rattle.lines.proofs.line_byte.Reads as line-byte-reads
-use Rattle.lines.proofs.line_word.Reads as line-word-reads
-use Rattle.ticket.proofs.accept.refused.Reads as refused-reads
-use Rattle.ticket.proofs.accept.with_value.Reads as with-value-reads
 
 refused-requires : tie.Need-refused-requires
 refused-requires c κs = search needs
@@ -48,11 +42,14 @@ refused-requires-3 c κs = search needs
 
 returns-3 : tie.Need-returns-3
 returns-3 c =
+    let station = c .before .before in
+    let kind = station .before .before in
     c .refused3 .ensures
-    ∙ sym (proposal-order _ _ _ _ _ _ (omega arith) _ (c .before .before .before .before .line-byte .ensures) (omega arith) _ (c .before .before .line-byte2 .ensures) _ (proposed (c .before .before .before .before .before .before .before)) (c .before .if3 .taken))
+    ∙ sym (proposal-order _ _ _ _ _ _ (omega arith) _ (kind .line-byte .ensures) (omega arith) _ (station .line-byte2 .ensures) _
+    (proposed (kind .before .before .before)) (c .before .if3 .taken))
 
 line-word-requires : tie.Need-line-word-requires
-line-word-requires c κs = (holds-part _ _ _ 2 4 (c .before .before .before .before .before .before .pre .0) (omega arith), (omega arith))
+line-word-requires c κs = (holds-part _ _ _ 2 4 (c .before .before .before .before .before .before .pre .0) (omega arith), omega arith)
 
 cast-with-value : tie.Need-cast-with-value
 cast-with-value c =
@@ -64,8 +61,11 @@ with-value-requires c κs = search needs
 
 returns-4 : tie.Need-returns-4
 returns-4 c =
+    let station = c .before .before .before in
+    let kind = station .before .before in
     c .with-value .ensures
-    ∙ sym (proposal-next _ _ _ _ _ _ (omega arith) _ (c .before .before .before .before .before .line-byte .ensures) (omega arith) _ (c .before .before .before .line-byte2 .ensures) _ (proposed (c .before .before .before .before .before .before .before .before)) (omega arith) _ (c .before .line-word .ensures))
+    ∙ sym (proposal-next _ _ _ _ _ _ (omega arith) _ (kind .line-byte .ensures) (omega arith) _ (station .line-byte2 .ensures) _
+    (proposed (kind .before .before .before)) (omega arith) _ (c .before .line-word .ensures))
 
 pub proposal-line-spec : {M : Type 1} → statement M
 proposal-line-spec =

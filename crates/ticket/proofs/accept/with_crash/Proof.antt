@@ -2,12 +2,10 @@
 use mathlib.Core.Path.{_≡_}
 use native.Mathlib.Omega.{arith}
 use lib.ListN.{length}
-use Rattle.ticket.proofs.CrashTable.{Roomy, crash-stored}
 use borrow.Author.Needs.{needs}
+use Rattle.ticket.proofs.CrashTable.{Roomy, crash-stored}
 use Rattle.ticket.proofs.accept.with_crash.Statement.{statement}
 use Rattle.ticket.proofs.accept.with_crash.Tie as tie
-use Rattle.ticket.proofs.accept.with_crash.Reads as reads
-use Rattle.ticket.proofs.accept.with_crash.Lts as lts
 
 sub-place : tie.Need-sub-place
 sub-place c = search needs

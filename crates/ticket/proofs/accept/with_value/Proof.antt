@@ -2,14 +2,11 @@
 use mathlib.Core.Path.{_≡_, refl}
 use native.Mathlib.Omega.{arith}
 use lib.ListN.{length}
+use borrow.Author.Needs.{needs}
 use Rattle.ticket.specs.Progress.{stageOf}
 use Rattle.ticket.proofs.TableStages.{proposals-left, proposals-done}
-use borrow.Author.Needs.{needs}
 use Rattle.ticket.proofs.accept.with_value.Statement.{statement}
 use Rattle.ticket.proofs.accept.with_value.Tie as tie
-use Rattle.ticket.proofs.accept.with_value.Reads as reads
-use Rattle.ticket.proofs.accept.with_value.Lts as lts
-use Rattle.ticket.proofs.accept.no_rounds.Reads as no-rounds-reads
 
 add-proposals : tie.Need-add-proposals
 add-proposals c = search needs

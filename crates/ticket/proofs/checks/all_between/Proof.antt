@@ -1,11 +1,8 @@
 -- `all_between` meets its contract. Assumes nothing.
-use Rattle.ticket.proofs.Sets.{reaches-low, reaches-above}
 use borrow.Author.Needs.{needs}
+use Rattle.ticket.proofs.Sets.{reaches-low, reaches-above}
 use Rattle.ticket.proofs.checks.all_between.Statement.{statement}
 use Rattle.ticket.proofs.checks.all_between.Tie as tie
-use Rattle.ticket.proofs.checks.all_between.Reads as reads
-use Rattle.ticket.proofs.checks.all_between.Lts as lts
-use Rattle.ticket.proofs.checks.first_processes.Reads as first-processes-reads
 
 first-processes-requires : tie.Need-first-processes-requires
 first-processes-requires c κs = search needs

@@ -1,11 +1,9 @@
 -- `first_processes` meets its contract. Assumes nothing.
 use native.Mathlib.Omega.{arith}
-use Rattle.ticket.proofs.Sets.{highest-positive, first-mask}
 use borrow.Author.Needs.{needs}
+use Rattle.ticket.proofs.Sets.{highest-positive, first-mask}
 use Rattle.ticket.proofs.checks.first_processes.Statement.{statement}
 use Rattle.ticket.proofs.checks.first_processes.Tie as tie
-use Rattle.ticket.proofs.checks.first_processes.Reads as reads
-use Rattle.ticket.proofs.checks.first_processes.Lts as lts
 
 sub-highest : tie.Need-sub-highest
 sub-highest c = search needs

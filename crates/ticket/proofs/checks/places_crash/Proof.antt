@@ -3,8 +3,6 @@ use native.Mathlib.Omega.{arith}
 use Rattle.ticket.proofs.CheckAnswers.{process-zero, process-past, process-falls, round-zero, round-past, round-within}
 use Rattle.ticket.proofs.checks.places_crash.Statement.{statement}
 use Rattle.ticket.proofs.checks.places_crash.Tie as tie
-use Rattle.ticket.proofs.checks.places_crash.Reads as reads
-use Rattle.ticket.proofs.checks.places_crash.Lts as lts
 
 returns : tie.Need-returns
 returns c = process-zero _ _ _ _ (omega arith)

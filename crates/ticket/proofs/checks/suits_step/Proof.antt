@@ -1,13 +1,10 @@
 -- `suits_step` meets its contract. Assumes nothing.
 use mathlib.Core.Path.{_∙_}
 use native.Mathlib.Omega.{arith}
-use Rattle.ticket.proofs.CheckAnswers.{before-with-set, before-count, other-round, data-with-count, data-set, commits-with-set, commits-count}
 use borrow.Author.Needs.{needs}
+use Rattle.ticket.proofs.CheckAnswers.{before-with-set, before-count, other-round, data-with-count, data-set, commits-with-set, commits-count}
 use Rattle.ticket.proofs.checks.suits_step.Statement.{statement}
 use Rattle.ticket.proofs.checks.suits_step.Tie as tie
-use Rattle.ticket.proofs.checks.suits_step.Reads as reads
-use Rattle.ticket.proofs.checks.suits_step.Lts as lts
-use Rattle.ticket.proofs.checks.all_between.Reads as all-between-reads
 
 returns : tie.Need-returns
 returns c = before-with-set _ _ (omega arith) (λ e. omega arith)

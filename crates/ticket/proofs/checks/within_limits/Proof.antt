@@ -3,8 +3,6 @@ use native.Mathlib.Omega.{arith}
 use Rattle.ticket.proofs.CheckAnswers.{limits-none, limits-many, limits-within}
 use Rattle.ticket.proofs.checks.within_limits.Statement.{statement}
 use Rattle.ticket.proofs.checks.within_limits.Tie as tie
-use Rattle.ticket.proofs.checks.within_limits.Reads as reads
-use Rattle.ticket.proofs.checks.within_limits.Lts as lts
 
 returns : tie.Need-returns
 returns c = limits-none _ _ (omega arith)
