@@ -1,0 +1,42 @@
+-- Demand 3: of the rounds of every accepted text, and of the bytes of every result that running writes. Assumes nothing.
+use mathlib.Core.Path.{refl, sym, ap, _∙_}
+use Rattle.protocol.specs.Run.{crashesOf}
+use Rattle.protocol.specs.Consensus.{endOf, latestOf}
+use Rattle.protocol.specs.Count.{crashCount}
+use Rattle.protocol.proofs.Consensus.{uniform-consensus}
+use Rattle.protocol.proofs.Pair.{no-later}
+use Rattle.ticket.proofs.WellFormed.{accepted-well-formed}
+use Rattle.demands.specs.Said.{endSaid}
+use Rattle.demands.specs.Crashes.{CountsCrashes}
+use Rattle.demands.specs.Demand3.{RoundsClaim, OutputClaim, Demand3}
+use Rattle.demands.proofs.SameEnds.{SameEnds, consensus-same, no-later-same, ends-in-order}
+use Rattle.demands.proofs.PairedTexts.{pairing-claim}
+use Rattle.demands.proofs.Outputs.{written-accepted, ends-said, f-said}
+
+rounds-claim : RoundsClaim
+unfolding CountsCrashes crashesOf SameEnds
+rounds-claim =
+    record {
+      consensus = λ text x read. uniform-consensus x (accepted-well-formed text x read);
+      crashes = λ text x read. ap (crashCount (x .pattern)) (sym (ends-in-order x (accepted-well-formed text x read) (endOf x) (λ p process. refl)));
+      noLater = λ a b x y read read′ paired. no-later x y (accepted-well-formed a x read) (accepted-well-formed b y read′) paired;
+    }
+
+output-claim : OutputClaim
+unfolding CountsCrashes crashesOf latestOf
+output-claim =
+    record {
+      accepts = written-accepted;
+      consensus = λ text x out wrote.
+          let same = ends-said text x out wrote in
+          rw (f-said text x out wrote) (consensus-same x (endOf x) (endSaid out) same (latestOf x) (rounds-claim .consensus text x (wrote .read)));
+      crashes = λ text x out wrote.
+          let formed = accepted-well-formed text x (wrote .read) in
+          f-said text x out wrote ∙ ap (crashCount (x .pattern)) (sym (ends-in-order x formed (endSaid out) (ends-said text x out wrote)));
+      noLater = λ a b x y out out′ wrote wrote′ paired.
+          no-later-same x y (endOf x) (endSaid out) (endOf y) (endSaid out′) (ends-said a x out wrote) (ends-said b y out′ wrote′)
+          (rounds-claim .noLater a b x y (wrote .read) (wrote′ .read) paired);
+    }
+
+pub demand-3 : Demand3
+demand-3 = record { rounds = rounds-claim; outputs = output-claim; pairing = pairing-claim }

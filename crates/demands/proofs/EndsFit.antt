@@ -1,0 +1,70 @@
+-- The ends and the counts of a run fit the bytes that a result has for them, so the result says what they are. For well-formed instances. Assumes nothing else.
+use mathlib.Core.List.{List, _++_}
+use mathlib.Core.Path.{_≡_, refl, sym}
+use Prim.Native.Nat.{ℕ, suc, _-_, _^_, _≤_, _<_}
+use native.Mathlib.Omega.{arith}
+use Rattle.protocol.specs.Instance.{Instance, crashes}
+use Rattle.protocol.specs.Round.{State, undecided, decided, crashed, stateOf}
+use Rattle.protocol.specs.WellFormed.{WellFormed, FaultAllowed}
+use Rattle.protocol.specs.Run.{runOf, crashesOf}
+use Rattle.protocol.specs.Consensus.{IsProcess, Decides, Validity, DecidesBy, CrashesAsSaid, CrashesNoOther, UniformConsensus, endOf, latestOf}
+use Rattle.protocol.proofs.Counts.{crashes-le, counts-fit}
+use Rattle.protocol.proofs.Ends.{states-at-end}
+use Rattle.protocol.proofs.Consensus.{uniform-consensus}
+use Rattle.protocol.proofs.Settled.{none-ends-undecided}
+use Rattle.result.specs.ResultLine.{resultText}
+use Rattle.demands.specs.Said.{endSaid, crashesSaid}
+use Rattle.demands.proofs.ResultReadBack.{Fits, RunFits, end-said, crashes-said}
+use Rattle.demands.proofs.SameEnds.{SameEnds}
+
+module _ (x : Instance) (formed : WellFormed x) where
+  consensus : UniformConsensus (latestOf x) x (endOf x)
+  consensus = uniform-consensus x formed
+
+  -- A decision is made by round f + 1, on a proposed value.
+  decided-fits : (p r v : ℕ) → Decides x (endOf x) p r v → (r < 256) × (v < 2 ^ 32)
+  unfolding Validity DecidesBy latestOf
+  decided-fits p r v d =
+      let early : r ≤ suc (crashesOf x) = consensus .earlyDecision p r v d in
+      let (q, process, proposed) = consensus .validity p r v d in
+      (omega (arith, crashes-le x formed), rw proposed at (formed .values-fit (q - 1)))
+
+  -- A crash happens in the round of its failure line.
+  crashed-fits : (p r : ℕ) → IsProcess x p → endOf x p ≡ crashed r → r < 256
+  unfolding CrashesAsSaid CrashesNoOther FaultAllowed
+  crashed-fits p r process e =
+      let (s, point, fault, ended) = consensus .crashesAsSaid p (consensus .crashesNoOther p r process e) in
+      let same : s ≡ r = cc in
+      let allowed : FaultAllowed (x .processes) (x .resilience) p (crashes s point) = rw fault at (formed .faults-allowed p (process .first) (process .last)) in
+      omega (arith, allowed .1)
+
+  end-fits : (p : ℕ) → IsProcess x p → Fits (endOf x p)
+  unfolding Fits
+  end-fits p process = by-state (endOf x p) refl
+    where
+      by-state : (s : State) → endOf x p ≡ s → Fits s
+      by-state (undecided v) e = absurd (none-ends-undecided x formed p v process e)
+      by-state (decided r v) e = decided-fits p r v (record { process = process; state = e })
+      by-state (crashed r) e = crashed-fits p r process e
+
+  run-fits : RunFits (runOf x) (crashesOf x) (x .processes)
+  unfolding endOf stateOf
+  run-fits =
+      let fit = counts-fit x formed in
+      record {
+        all-end = states-at-end x formed;
+        few = omega arith;
+        states = λ k h. let same : suc k - 1 ≡ k = omega arith in rw same at (end-fits (suc k) (record { first = omega arith; last = omega arith }));
+        rounds = omega arith;
+        crashes = omega arith;
+        speakers = omega arith;
+      }
+
+  -- So an output that begins with the result says how every process ended, and f.
+  pub ends-in-result : (rest : List ℕ) → SameEnds x (endOf x) (endSaid (resultText x ++ rest))
+  unfolding SameEnds endOf resultText
+  ends-in-result rest p process = sym (end-said (runOf x) (crashesOf x) (x .processes) run-fits rest p (process .first) (process .last))
+
+  pub f-in-result : (rest : List ℕ) → crashesSaid (resultText x ++ rest) (x .processes) ≡ crashesOf x
+  unfolding resultText
+  f-in-result rest = crashes-said (runOf x) (crashesOf x) (x .processes) run-fits rest

@@ -1,0 +1,11 @@
+pub mod NumberReadBack
+pub mod LineReadBack
+pub mod ResultReadBack
+pub mod SameEnds
+pub mod EndsFit
+pub mod Outputs
+pub mod PairedFaults
+pub mod AcceptedLine
+pub mod PairedTexts
+pub mod Demand3
+pub mod BoundClaim

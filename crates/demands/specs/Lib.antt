@@ -1,0 +1,5 @@
+pub mod Said
+pub mod Crashes
+pub mod PairedTexts
+pub mod Demand3
+pub mod BoundClaim
