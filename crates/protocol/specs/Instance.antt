@@ -18,7 +18,8 @@ pub data CrashPoint : Type 0 where
 unfoldable pub pointFrom : (step reached count : ℕ) → CrashPoint
 pointFrom step reached count = cond (eqb step 0) beforeSending (cond (eqb step 1) (duringData reached) (duringCommits count))
 
--- What the failure pattern says of one process (document 01: no failure line, or its failure line): it is correct, or it crashes in this round at this point.
+-- What the failure pattern says of one process (document 01: no failure line, or its failure line): it is correct, or it crashes in this round at this point
+-- if it is still up and undecided then.
 pub data Fault : Type 0 where
   correct : Fault
   crashes : ℕ → CrashPoint → Fault

@@ -8,7 +8,7 @@ pub data Messages : Type 0 where
   estimate : ℕ → Messages
   estimateAndCommit : ℕ → Messages
 
--- How many of the two messages to one process leave before the sender crashes.
+-- How far the messages of a round get from one process to another: none of them, the data alone, or all that were sent.
 pub data Reach : Type 0 where
   none dataOnly all : Reach
 

@@ -28,6 +28,6 @@ pub record WellFormed (x : Instance) : Type 0 where
   pub fewer-crashes : x .resilience < x .processes
   pub all-propose : length (x .proposals) ≡ x .processes
   pub all-have-fault : length (x .pattern) ≡ x .processes
-  pub values-fit : (p : ℕ) → getD (x .proposals) p 0 < 2 ^ 32
+  pub values-fit : (i : ℕ) → getD (x .proposals) i 0 < 2 ^ 32
   pub faults-allowed : (p : ℕ) → 1 ≤ p → p ≤ x .processes → FaultAllowed (x .processes) (x .resilience) p (faultOf x p)
   pub few-faults : faultCount (x .pattern) ≤ x .resilience

@@ -64,7 +64,7 @@ failureLine b =
       count = getD b 12 0;
     }
 
--- Refusal 7: station in 1 to n and rising, round in 1 to t + 1, step at most 02.
+-- What a failure line must hold to escape refusal 7: station in 1 to n and rising, round in 1 to t + 1, step at most 02.
 unfoldable pub placesCrash : ℕ → ℕ → ℕ → FailureLine → Bool
 placesCrash n t last l =
     leb 1 (l .process) && leb (l .process) n && ltb last (l .process)
@@ -74,7 +74,7 @@ placesCrash n t last l =
 unfoldable pub allBetween : ℕ → ℕ → ℕ → Bool
 allBetween p n reached = eqb (reached % 2 ^ p) 0 && ltb reached (2 ^ n)
 
--- Refusal 8: a set and a count that suit the step; steps 01 and 02 in the station's own round.
+-- What it must hold to escape refusal 8: a set and a count that suit the step; steps 01 and 02 in the station's own round.
 unfoldable pub suitsStep : ℕ → FailureLine → Bool
 suitsStep n l =
     cond (eqb (l .step) 0) (eqb (l .reached) 0 && eqb (l .count) 0)
