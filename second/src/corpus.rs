@@ -9,6 +9,12 @@ use crate::rng::Rng;
 use crate::ticket::{processes_above, Failure, Ticket, LONGEST_TICKET, MOST_PROCESSES};
 use crate::worked;
 
+/// The longest text of a corpus, and the most that `replay` takes.
+pub const LONGEST_TEXT: usize = 4200;
+
+/// The longest output buffer of a corpus, and the most that `replay` has.
+pub const LONGEST_ROOM: usize = 1200;
+
 /// A ticket's text, and how long the output buffer is that it is run with.
 #[derive(Clone, Debug, PartialEq, Eq, Hash)]
 pub struct Entry {
@@ -55,6 +61,7 @@ fn systematic(rng: &mut Rng) -> Vec<Entry> {
     entries.extend(wrong_numbers());
     entries.extend(wrong_sets_and_counts());
     entries.extend(too_many_failures());
+    entries.extend(last_lines());
     entries.extend(each_room());
     entries
 }
@@ -140,7 +147,7 @@ fn wrong_lengths() -> Vec<Entry> {
         let texts = [ends, followed, one_line, last_line, vec![b'\n'; length], vec![0; length]];
         entries.extend(texts.map(Entry::ample));
     }
-    entries.push(Entry::ample(vec![b'0'; 5000]));
+    entries.push(Entry::ample(vec![b'0'; LONGEST_TEXT]));
     entries
 }
 
@@ -291,13 +298,37 @@ fn too_many_failures() -> Vec<Entry> {
     entries_of(&texts)
 }
 
+/// Refusals 2, 3, 5, 7 and 8 at their last possible lines: the longest ticket
+/// has proposals to line 65, failures to line 128, and 129 lines.
+fn last_lines() -> Vec<Entry> {
+    let most = MOST_PROCESSES;
+    let longest = first_crash(most, most - 1, most - 1, |process| {
+        Failure::sending_commits(process, most - process)
+    });
+    let lines = decoded_lines(&longest);
+    let mut texts: Vec<Vec<u8>> = vec![];
+    for (line, place, value) in [(65, 1, 63), (128, 1, 65), (128, 3, 3), (128, 3, 1), (128, 12, 2)]
+    {
+        let mut changed = lines.clone();
+        changed[line - 1][place] = value;
+        texts.push(encode_lines(&changed));
+    }
+    let whole = encode_lines(&lines);
+    texts.push(encode_lines(&lines[..lines.len() - 1]));
+    for after in ["04\n", "0\n", "\n", "04"] {
+        texts.push([&whole, after.as_bytes()].concat());
+    }
+    texts.into_iter().map(Entry::ample).collect()
+}
+
 /// Refusal 9, and just not refusal 9.
 fn each_room() -> Vec<Entry> {
     let mut entries = Vec::new();
     for n in [1, 4, 64] {
         let text = plain(n, n - 1, vec![]).text();
         let exact = result_length(n);
-        for room in [0, 1, 17, exact - 17, exact - 1, exact, exact + 1, exact + 17] {
+        let rooms = [0, 1, 17, exact - 17, exact - 1, exact, exact + 1, exact + 17, LONGEST_ROOM];
+        for room in rooms {
             let text = text.clone();
             entries.push(Entry { text, room });
         }
@@ -321,9 +352,16 @@ mod tests {
     }
 
     #[test]
+    fn replay_takes_every_entry() {
+        let entries = corpus(1, 600);
+        assert!(entries.iter().all(|entry| entry.text.len() <= LONGEST_TEXT));
+        assert!(entries.iter().all(|entry| entry.room <= LONGEST_ROOM));
+    }
+
+    #[test]
     fn the_systematic_part_shows_what_it_is_for() {
         let mut simulator = Simulator::new();
-        let mut output = vec![0; 2000];
+        let mut output = vec![0; LONGEST_ROOM];
         let (mut refusals, mut sizes) = (BTreeSet::new(), BTreeSet::new());
         let entries = systematic(&mut Rng::new(1));
         for Entry { text, room } in &entries {
@@ -339,10 +377,11 @@ mod tests {
         let every_line: Vec<u16> = (1..=12).collect();
         assert!(shown(1, &[0]) && shown(9, &[0]));
         assert!(shown(2, &every_line) && shown(3, &every_line));
+        assert!(shown(2, &[130]) && shown(3, &[129, 130]));
         assert!(shown(4, &[1]));
-        assert!(shown(5, &[2, 3, 4, 5, 6, 7]));
+        assert!(shown(5, &[2, 3, 4, 5, 6, 7, 65]));
         assert!(shown(6, &[3, 6, 11, 129]));
-        assert!(shown(7, &[8, 9, 10]) && shown(8, &[8, 9, 10]));
+        assert!(shown(7, &[8, 9, 10, 128]) && shown(8, &[8, 9, 10, 128]));
         for length in [4096, 4097] {
             assert!(entries.iter().any(|entry| entry.text.len() == length));
         }

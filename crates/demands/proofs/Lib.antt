@@ -1,4 +1,4 @@
-pub mod NumberReadBack
+pub mod NumberBytes
 pub mod LineReadBack
 pub mod ResultReadBack
 pub mod SameEnds

@@ -16,7 +16,8 @@ use Rattle.ticket.specs.Accept.{isKind}
 use Rattle.ticket.proofs.LineBytes.{Bytes}
 use Rattle.result.specs.ResultLine.{endBytes, processLine, lastLine, joined, resultLines}
 use Rattle.demands.specs.Said.{isProcessLine, endIn, endFrom, crashesFrom, lineAt, endSaid, crashesSaid}
-use Rattle.demands.proofs.NumberReadBack.{number-read-back, bytes-append, bytes-of-number}
+use Rattle.general.proofs.BigEndian.{number-bytes}
+use Rattle.demands.proofs.NumberBytes.{bytes-append, bytes-of-number}
 use Rattle.demands.proofs.LineReadBack.{line-read-back}
 
 -- A process that ended so can be read back: it has decided or crashed, in a round of one byte, on a value of four.
@@ -50,8 +51,8 @@ line-bytes p (crashed r) h fits = four-then 0x11 p 2 r (bytesOf 4 0) (omega arit
 end-read-back : (p : ℕ) (s : State) → Fits s → endIn p (lineBytes p s) ≡ s
 unfolding Fits endIn isProcessLine isKind endBytes bytesOf
 end-read-back p (undecided v) fits = absurd fits
-end-read-back p (decided r v) fits = rw (eq-eqb p p refl) (ap (decided r) (number-read-back 4 v (omega arith)))
-end-read-back p (crashed r) fits = rw (eq-eqb p p refl, number-read-back 4 0 (omega arith))
+end-read-back p (decided r v) fits = rw (eq-eqb p p refl) (ap (decided r) (number-bytes 4 v (omega arith)))
+end-read-back p (crashed r) fits = rw (eq-eqb p p refl, number-bytes 4 0 (omega arith))
 
 -- The lines of processes, of which the first is process p.
 processes-read-back : (states : List State) (p : ℕ) (rest : List ℕ) → p + length states ≤ 256

@@ -1,9 +1,25 @@
--- Numbers of two and of four bytes, byte by byte. Assumes nothing.
-use mathlib.Core.List.{List, [], _∷_}
+-- Laws of big-endian numbers: one byte more, the bytes of two and of four written out, and that a number comes back from its bytes. Assumes nothing.
+use mathlib.Core.List.{List, [], _∷_, _++_}
 use mathlib.Core.Path.{_≡_, refl, ap, _∙_}
-use Prim.Native.Nat.{ℕ, _/_, _%_}
+use Prim.Native.Nat.{ℕ, zero, suc, _+_, _*_, _/_, _%_, _^_, _<_}
+use native.Mathlib.Nat.{pow-suc, pow-zero}
 use native.Mathlib.Omega.{arith}
-use Rattle.general.specs.BigEndian.{bytesOf}
+use Rattle.general.specs.BigEndian.{number, numberFrom, bytesOf}
+
+pub numberFrom-snoc : (high : ℕ) (bs : List ℕ) (b : ℕ) → numberFrom high (bs ++ (b ∷ [])) ≡ numberFrom high bs * 256 + b
+unfolding numberFrom
+numberFrom-snoc high [] b = refl
+numberFrom-snoc high (a ∷ bs) b = numberFrom-snoc (high * 256 + a) bs b
+
+-- A number that fits so many bytes comes back from them.
+pub number-bytes : (width v : ℕ) → v < 256 ^ width → number (bytesOf width v) ≡ v
+unfolding number numberFrom bytesOf
+number-bytes zero v h = let none : v < 1 = rw pow-zero at h in omega arith
+number-bytes (suc width) v h =
+    let more : v < 256 ^ width * 256 = rw pow-suc at h in
+    numberFrom-snoc 0 (bytesOf width (v / 256)) (v % 256)
+    ∙ ap (λ (w : ℕ). w * 256 + v % 256) (number-bytes width (v / 256) (omega arith))
+    ∙ omega arith
 
 pub bytes-two : (v : ℕ) → bytesOf 2 v ≡ v / 256 % 256 ∷ v % 256 ∷ []
 unfolding bytesOf

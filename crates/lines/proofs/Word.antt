@@ -1,18 +1,14 @@
 -- Laws of the number that bytes read in place stand for: one byte more, and that eight bytes fit 64 bits. Assumes nothing.
-use mathlib.Core.List.{List, [], _∷_, _++_}
-use mathlib.Core.Path.{_≡_, refl, ap, _∙_}
+use mathlib.Core.List.{List}
+use mathlib.Core.Path.{_≡_, ap, _∙_}
 use Prim.Native.Nat.{ℕ, zero, suc, _+_, _*_, _^_, _≤_, _<_}
 use native.Mathlib.Nat.{pow-suc, pow-le-pow-right}
 use native.Mathlib.Numerals.{add-one}
 use native.Mathlib.Omega.{arith}
 use Rattle.general.specs.BigEndian.{number, numberFrom}
+use Rattle.general.proofs.BigEndian.{numberFrom-snoc}
 use Rattle.lines.specs.Bytes.{byteAt, bytesAt, HoldsBytes}
 use Rattle.lines.proofs.Bytes.{bytesAt-suc, holds-front, holds-part, byteAt-small}
-
-numberFrom-snoc : (high : ℕ) (l : List ℕ) (b : ℕ) → numberFrom high (l ++ (b ∷ [])) ≡ numberFrom high l * 256 + b
-unfolding numberFrom
-numberFrom-snoc high [] b = refl
-numberFrom-snoc high (c ∷ l) b = numberFrom-snoc (high * 256 + c) l b
 
 module _ (text : List ℕ) where
   number-suc : (place i : ℕ) → number (bytesAt text place (suc i)) ≡ number (bytesAt text place i) * 256 + byteAt text (place + 2 * i)

@@ -1,11 +1,11 @@
-//! Writes a corpus of tickets and what a program prints for each.
+//! Writes a corpus of tickets and what the program `replay` writes for each.
 //!
 //! `make-tickets [--seed NUMBER] [--count NUMBER] [--folder FOLDER]` writes
 //!
-//! - `tickets.hex`: a line for each ticket, its bytes in hexadecimal, one
-//!   space, and the output buffer's length in decimal;
-//! - `tickets.expected`: a block for each ticket, the result lines or the
-//!   refusal line, and then an empty line.
+//! - `stdin`: a line for each ticket, in digits 0-9, A-F: the output buffer's
+//!   length (2 bytes, most significant byte first), then the ticket's bytes;
+//! - `stdout`: a block for each ticket, the result lines or the refusal line,
+//!   and then an empty line.
 
 use std::fmt::Write;
 use std::path::PathBuf;
@@ -41,15 +41,16 @@ fn write_corpus(options: &Options) -> io::Result<usize> {
     let mut simulator = Simulator::new();
     let (mut tickets, mut expected) = (String::new(), String::new());
     for Entry { text, room } in &entries {
+        write!(tickets, "{room:04X}").expect("a string takes everything");
         for byte in text {
             write!(tickets, "{byte:02X}").expect("a string takes everything");
         }
-        writeln!(tickets, " {room}").expect("a string takes everything");
+        tickets.push('\n');
         expected += &simulator.print(text, *room);
         expected.push('\n');
     }
-    fs::write(options.folder.join("tickets.hex"), tickets)?;
-    fs::write(options.folder.join("tickets.expected"), expected)?;
+    fs::write(options.folder.join("stdin"), tickets)?;
+    fs::write(options.folder.join("stdout"), expected)?;
     Ok(entries.len())
 }
 

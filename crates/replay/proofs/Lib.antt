@@ -1,0 +1,3 @@
+pub mod RanIn
+pub mod Taken
+pub mod Untouched

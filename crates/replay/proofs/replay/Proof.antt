@@ -1,0 +1,73 @@
+-- `replay::replay` meets its contract: each line read leads on. Assumes nothing.
+use Prim.Native.Nat.{_-_}
+use Rattle.lines.proofs.Read.{read-line}
+use Rattle.lines.specs.LineAt.{LineAt}
+use Rattle.replay.proofs.replay.Statement.{statement}
+use Rattle.replay.proofs.replay.Tie as tie
+use borrow.Author.Needs.{needs}
+use lib.ListN.{length}
+use mathlib.Core.Path.{sym, _∙_}
+use native.Mathlib.Omega.{arith}
+
+abbrev Inv-loop : tie.InvT-loop
+Inv-loop text here₀ here = Unit {0}
+
+abbrev μ-loop : tie.MeasureT-loop
+μ-loop text here₀ here = length text - here .at
+
+-- The line that was read.
+line-here : (c : tie.After-size Inv-loop μ-loop)
+    → LineAt (c .before .before .before .before .before .before .before .before .args .text .now) (c .before .before .before .before .before .loop .here .at)
+    (c .size .given .0 .0) (c .size .given .0 .1 .0)
+line-here c = read-line _ _ _ _ (sym (c .before .before .read .ensures) ∙ c .size .given .1)
+
+new-requires : tie.Need-new-requires Inv-loop μ-loop
+new-requires c κs = search needs
+
+loop-holds : tie.Need-loop-holds Inv-loop μ-loop
+loop-holds c = tt
+
+read-requires : tie.Need-read-requires Inv-loop μ-loop
+read-requires c κs = search needs
+
+enum-known-size : tie.Need-enum-known-size Inv-loop μ-loop
+enum-known-size c = search needs
+
+enum-told : tie.Need-enum-told Inv-loop μ-loop
+enum-told c = search needs
+
+returns : tie.Need-returns Inv-loop μ-loop
+returns c = search needs
+
+replay-line-requires : tie.Need-replay-line-requires Inv-loop μ-loop
+replay-line-requires c κs = line-here (c .before) .holds
+
+returns-2 : tie.Need-returns-2 Inv-loop μ-loop
+returns-2 c = search needs
+
+loop-less : tie.Need-loop-less Inv-loop μ-loop
+loop-less c = let line = line-here (c .before .before .before) in omega arith
+
+loop-again : tie.Need-loop-again Inv-loop μ-loop
+loop-again c = tt
+
+returns-3 : tie.Need-returns-3 Inv-loop μ-loop
+returns-3 c = search needs
+
+pub replay-spec : {M : Type 1} → statement M
+replay-spec =
+    tie.close
+    (tie.spec
+    Inv-loop
+    μ-loop
+    new-requires
+    loop-holds
+    read-requires
+    enum-known-size
+    enum-told
+    returns
+    replay-line-requires
+    returns-2
+    loop-less
+    loop-again
+    returns-3)

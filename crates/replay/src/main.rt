@@ -1,0 +1,147 @@
+// replay: stored tickets, well formed and damaged, each run over the proved library; what it answers, and then an empty line.
+// On standard input a line for each ticket: the output buffer's length in two bytes, then the ticket's bytes.
+// The second implementation writes the tickets and what is to be written for them: `make-tickets` of second/.
+ghost use mathlib.Core.Path.{_≡_};
+ghost use mathlib.Core.List.{_++_};
+ghost use Prim.Native.Nat.{_+_, _≤_, min};
+ghost use lib.ListN.{length, take, drop};
+ghost use Rattle.lines.specs.Bytes.{bytesAt, HoldsBytes};
+ghost use Rattle.replay.specs.RanIn.{RanIn};
+ghost use Rattle.replay.specs.Untouched.{untouched};
+use lines::Cursor;
+use lines::LineRead;
+use running::RunAnswer;
+
+// The most bytes of a stored ticket: some more than a ticket may have.
+const TICKET_ROOM: usize = 4200;
+
+// The longest output buffer: some more than the result of 64 processes takes.
+const OUTPUT_ROOM: usize = 1200;
+
+// What an output buffer holds before a call: a byte that no result has.
+const FILLING: u8 = 165;
+
+// Whether a buffer still holds its filling from a place on.
+fn is_untouched(out: &[u8], from: usize) -> bool
+    ensures { λ r. ⌜ r ≡ untouched (drop from (now (out .entry))) ⌝ }
+{
+    let mut i = from;
+    while i < out.len() {
+        if out[i] != FILLING {
+            return false;
+        }
+        i += 1;
+    }
+    true
+}
+
+// Writes the line `changed` where a buffer has another byte than its filling from a place on.
+fn write_changed(out: &[u8], from: usize) {
+    if !is_untouched(out, from) {
+        io::write_all(1, b"changed\n");
+    }
+}
+
+// Writes the front of a buffer.
+fn write_front(buffer: &[u8], size: usize)
+    requires { ⌜ size ≤ length (now buffer) ⌝ }
+{
+    io::write_all(1, &buffer[..size]);
+}
+
+// Runs the first `size` bytes of a text as a ticket, with the first `room` bytes of a buffer as its output.
+fn run_in(text: &[u8], size: usize, out: &mut [u8], room: usize) -> RunAnswer
+    requires { ⌜ size ≤ length (now text) ⌝ }
+    requires { ⌜ room ≤ length (now out) ⌝ }
+    ensures { λ r. ⌜ RanIn (take size (now (text .entry))) room (now (out .entry)) (now (out .exit)) r ⌝ }
+{
+    running::run_ticket(&text[..size], &mut out[..room])
+}
+
+// Runs a ticket with an output of `room` bytes and writes what it answers. The bytes past a result, and all bytes after a refusal,
+// must still be the filling.
+fn answer(text: &[u8], size: usize, room: usize)
+    requires { ⌜ size ≤ length (now text) ⌝ }
+    requires { ⌜ room ≤ 1200 ⌝ }
+{
+    let mut out = [FILLING; OUTPUT_ROOM];
+    let ran = run_in(text, size, &mut out, room);
+    match ran {
+        RunAnswer::Written(written) => {
+            write_front(&out, written);
+            write_changed(&out, written);
+        }
+        RunAnswer::Refused(number, line) => {
+            io::write_all(1, &result::refusal_text(number, line));
+            write_changed(&out, 0);
+        }
+    }
+    io::write_all(1, b"\n");
+}
+
+// The lesser of two numbers.
+fn least(a: usize, b: usize) -> usize
+    ensures { λ r. ⌜ r ≡ min a b ⌝ }
+{
+    if a < b { a } else { b }
+}
+
+// The bytes of a line from byte 2 on, `size` of them, to the front of a buffer.
+fn take_ticket(text: &[u8], at: usize, size: usize, ticket: &mut [u8])
+    requires { ⌜ HoldsBytes (now text) at (2 + size) ⌝ }
+    requires { ⌜ size ≤ length (now ticket) ⌝ }
+    ensures { λ r. ⌜ now (ticket .exit) ≡ bytesAt (now (text .entry)) (at + 4) size ++ drop size (now (ticket .entry)) ⌝ }
+{
+    let mut k = 0;
+    while k < size {
+        ticket[k] = lines::line_byte(text, at, 2 + k);
+        k += 1;
+    }
+}
+
+// Replays the ticket of one line. Answers false where the line is too short for the length, or its ticket too long for the buffer.
+fn replay_line(text: &[u8], at: usize, size: usize) -> bool
+    requires { ⌜ HoldsBytes (now text) at size ⌝ }
+{
+    if size < 2 {
+        return false;
+    }
+    let count = size - 2;
+    if TICKET_ROOM < count {
+        return false;
+    }
+    let room = least(lines::line_word(text, at, 0, 2) as usize, OUTPUT_ROOM);
+    let mut ticket = [0u8; TICKET_ROOM];
+    take_ticket(text, at, count, &mut ticket);
+    answer(&ticket, count, room);
+    true
+}
+
+// Replays line after line, up to the end or to the first that cannot be replayed.
+fn replay(text: &[u8]) {
+    let mut here = Cursor::new();
+    while here.at < text.len() {
+        let at = here.at;
+        let LineRead::Line { size, next } = here.read(text) else {
+            return;
+        };
+        if !replay_line(text, at, size) {
+            return;
+        }
+        here = next;
+    }
+}
+
+// Room for all stored tickets: a mebibyte.
+fn storage() -> [u8; 1048576]
+    ensures { λ r. ⌜ 1048576 ≡ length r ⌝ }
+{
+    [0; 1048576]
+}
+
+// What is not read is not answered, and the gate sees that it is missing.
+fn main() {
+    let mut buffer = storage();
+    let size = io::read_full(0, &mut buffer);
+    replay(&buffer[..size]);
+}
