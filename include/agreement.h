@@ -8,11 +8,12 @@
  *   The library keeps nothing between calls, allocates nothing and reads no clock. It touches only the bytes that a
  *   call lends it, during that call. Calls may run in any number of threads at once, as long as no two of them lend
  *   overlapping bytes of which one may be written. The bytes lent to one call must not overlap each other.
- *   A pointer must not be NULL, even where its length is 0.
+ *   A pointer must not be NULL, even where its length is 0: to hand over nothing, point at any byte.
  *
  * TOTAL
- *   Every call is defined on every input: any bytes, any length, any number. Each call has one answer, and a call that
- *   is refused changes no byte. That is proved, for each call, of the code that this library is compiled from.
+ *   For pointers as above every call is defined on every input: any bytes, any length, any number. Each call has one
+ *   answer, and a call that is refused changes no byte. That is proved, for each call, of the code that this library is
+ *   compiled from.
  *
  * REFUSALS
  *   1   ticket of more than 4,096 bytes
