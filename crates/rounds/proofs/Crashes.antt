@@ -1,6 +1,6 @@
 -- The count of the failure lines that are not idle, process by process: what has been counted, and what is left to count. Assumes nothing.
 use mathlib.Core.List.{List}
-use mathlib.Core.Path.{_≡_, _∙_}
+use mathlib.Core.Path.{_≡_, refl, _∙_}
 use Prim.Native.Nat.{ℕ, suc, _+_, _-_, _≤_, _<_}
 use native.Mathlib.Omega.{arith}
 use lib.ListN.{length, getD, drop, drop-of-length-le}
@@ -14,8 +14,6 @@ use Rattle.tables.specs.declared.RunTable.{RunTable}
 use Rattle.tables.specs.InstanceReading.{instanceOf}
 use Rattle.tables.specs.RunReading.{statesIn}
 use Rattle.tables.proofs.Places.{length-statesIn}
-use Rattle.rounds.specs.declared.Entry.{Entry}
-use Rattle.rounds.specs.declared.FaultEntry.{FaultEntry}
 use Rattle.rounds.specs.Entries.{entryOf, faultEntryOf, entryState, entryFault}
 use Rattle.rounds.proofs.Reading.{pattern-length, fault-read, state-read}
 
@@ -58,18 +56,18 @@ module _ (x : InstanceTable) (run : RunTable) where
         omega (arith, so-far .rest, count-none (instanceOf x .pattern) (statesIn (x .n) run) p (omega (arith, pattern-length x faults limit)))
 
     -- One process more.
-    pub counted-more : length (run .ends) ≡ 64 → (f p k : ℕ) (fault : FaultEntry) (s : Entry) → CountedBelow x run f p → p ≤ x .n
-        → fault ≡ faultEntryOf x p → s ≡ entryOf run p → k ≡ countsAsCrash (entryFault fault) (entryState s) → CountedBelow x run (f + k) (p + 1)
+    pub counted-more : length (run .ends) ≡ 64 → (f p k : ℕ) → CountedBelow x run f p → p ≤ x .n
+        → k ≡ countsAsCrash (entryFault (faultEntryOf x p)) (entryState (entryOf run p)) → CountedBelow x run (f + k) (p + 1)
     unfolding faultOf stateOf
-    counted-more entries f p k fault s so-far h of-fault of-s of-k =
+    counted-more entries f p k so-far h of-k =
         let size : length (statesIn (x .n) run) ≡ x .n = length-statesIn (x .n) run (omega arith) in
-        let its-fault = fault-read x faults limit p fault (omega arith) h of-fault in
-        let its-state = state-read (x .n) run entries limit p s (omega arith) h of-s in
+        let its-fault = fault-read x faults limit p _ (omega arith) h refl in
+        let its-state = state-read (x .n) run entries limit p _ (omega arith) h refl in
         let counts : k ≡ countsAsCrash (faultOf (instanceOf x) p) (stateOf (statesIn (x .n) run) p) = of-k ∙ rw (its-fault, its-state) in
         let step = count-one (instanceOf x .pattern) (statesIn (x .n) run) p (omega arith) (omega (arith, pattern-length x faults limit)) (omega arith) in
         record {
           first = omega arith;
           last = omega arith;
-          at-most = omega (arith, so-far .at-most, counts-once (entryFault fault) (entryState s) k of-k);
+          at-most = omega (arith, so-far .at-most, counts-once (entryFault (faultEntryOf x p)) (entryState (entryOf run p)) k of-k);
           rest = omega (arith, so-far .rest, counts, step);
         }

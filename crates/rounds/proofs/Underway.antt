@@ -6,7 +6,7 @@ use native.Mathlib.Omega.{arith}
 use mathlib.Core.Bool.{Bool, true, false}
 use lib.Dec.{ltb}
 use borrow.Author.Tests.{ltb-true, ltb-false}
-use lib.ListN.{length, length-set}
+use lib.ListN.{length, set, length-set}
 use lib.Seq.{getD-set-same, getD-set-other}
 use Rattle.general.proofs.Indexed.{length-mapFrom}
 use Rattle.protocol.specs.Round.{State, stateOf, received, after, statesAfter}
@@ -18,7 +18,7 @@ use Rattle.tables.specs.RunReading.{statesIn, runFrom}
 use Rattle.tables.proofs.Places.{fault-at, state-in, length-statesIn, states-ext}
 use Rattle.rounds.specs.declared.Entry.{Entry}
 use Rattle.rounds.specs.declared.FaultEntry.{FaultEntry}
-use Rattle.rounds.specs.Entries.{entryOf, faultEntryOf, withEntry, entryState, entryFault}
+use Rattle.rounds.specs.Entries.{entryOf, faultEntryOf, entryState, entryFault}
 use Rattle.rounds.specs.Halves.{withStates}
 use Rattle.rounds.proofs.Reading.{processes-of}
 
@@ -52,6 +52,19 @@ begins x r run sized =
       speakers = refl;
       sent = refl;
       commits = refl;
+    }
+
+-- The run table with this entry for process p.
+abbrev withEntry : RunTable → ℕ → Entry → RunTable
+withEntry run p s =
+    record {
+      ends = set (run .ends) (p - 1) (s .end);
+      ended = set (run .ended) (p - 1) (s .ended);
+      values = set (run .values) (p - 1) (s .value);
+      rounds = run .rounds;
+      speakers = run .speakers;
+      sent = run .sent;
+      commits = run .commits;
     }
 
 -- Storing an entry: the entry of its process, and those of the others.
@@ -90,14 +103,14 @@ stored x r run now p s way h g e =
         let same : q ≡ p = omega (arith, ltb-false q p ge) in
         rw same (ap entryState (entry-same now p s (way .sized) (omega arith)) ∙ e)
 
--- The same, of what the code reads of the tables and stores.
-pub goes-on : (x : InstanceTable) (r : ℕ) (run now next : RunTable) (p : ℕ) (own fault : FaultEntry) (s c e : Entry) → Underway x r run now p
-    → 1 ≤ p → p ≤ 64 → fault ≡ faultEntryOf x r → c ≡ entryOf run r → own ≡ faultEntryOf x p → s ≡ entryOf now p
-    → entryState e ≡ after r p (entryFault own) (received (x .n) r (entryFault fault) (entryState c) p) (entryState s) → next ≡ withEntry now p e
-    → Underway x r run next (p + 1)
-goes-on x r run now next p own fault s c e way h g of-fault of-c of-own of-s becoming storing =
-    let still : s ≡ entryOf run p = of-s ∙ way .left p (omega arith) in
-    rw storing (stored x r run now p e way h g (becoming ∙ rw (of-fault, of-c, of-own, still)))
+-- The same, of what the code makes of the entries that it reads and of the coordinator's as the round began, and stores.
+pub goes-on : (x : InstanceTable) (r : ℕ) (run now next : RunTable) (p : ℕ) (fault : FaultEntry) (c e : Entry) → Underway x r run now p → 1 ≤ p → p ≤ 64
+    → fault ≡ faultEntryOf x r → c ≡ entryOf run r
+    → entryState e ≡ after r p (entryFault (faultEntryOf x p)) (received (x .n) r (entryFault fault) (entryState c) p) (entryState (entryOf now p))
+    → next ≡ withEntry now p e → Underway x r run next (p + 1)
+goes-on x r run now next p fault c e way h g of-fault of-c becoming storing =
+    let still : entryState (entryOf now p) ≡ entryState (entryOf run p) = ap entryState (way .left p (omega arith)) in
+    rw storing (stored x r run now p e way h g (becoming ∙ rw (of-fault, of-c, still)))
 
 module _ (x : InstanceTable) (r : ℕ) (run : RunTable) (h : 1 ≤ r) (g : r ≤ x .n) (fits : x .n ≤ 64) (faults : length (x .rounds) ≡ 64) (sized : Sized run) where
   -- A round of the definitions, at process q, from the tables.

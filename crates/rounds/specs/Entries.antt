@@ -1,6 +1,6 @@
 -- The entries of one process in the tables, which the functions on one process take and give, and what they stand for.
 use Prim.Native.Nat.{ℕ, _-_}
-use lib.ListN.{getD, set}
+use lib.ListN.{getD}
 use Rattle.protocol.specs.Instance.{Fault}
 use Rattle.protocol.specs.Round.{State}
 use Rattle.tables.specs.declared.InstanceTable.{InstanceTable}
@@ -21,19 +21,6 @@ faultEntryOf x p =
       step = getD (x .steps) (p - 1) 0;
       reached = getD (x .sets) (p - 1) 0;
       count = getD (x .counts) (p - 1) 0;
-    }
-
--- The run table with this entry for process p.
-abbrev pub withEntry : RunTable → ℕ → Entry → RunTable
-withEntry run p s =
-    record {
-      ends = set (run .ends) (p - 1) (s .end);
-      ended = set (run .ended) (p - 1) (s .ended);
-      values = set (run .values) (p - 1) (s .value);
-      rounds = run .rounds;
-      speakers = run .speakers;
-      sent = run .sent;
-      commits = run .commits;
     }
 
 -- A process's entry of a run table: its state.

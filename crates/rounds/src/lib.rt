@@ -86,10 +86,22 @@ pub fn with_states(x: InstanceTable, run: RunTable, r: u8) -> RunTable
     let mut next = run;
     let mut p: u8 = 1;
     while p <= n {
-        let own = table::fault_of(x, p);
-        let s = table::entry_of(next, p);
+        let i = (p - 1) as usize;
+        let own = FaultEntry {
+            round: x.rounds[i],
+            step: x.steps[i],
+            reached: x.sets[i],
+            count: x.counts[i],
+        };
+        let s = Entry {
+            end: next.ends[i],
+            ended: next.ended[i],
+            value: next.values[i],
+        };
         let after = transition::after_round(n, r, p, own, s, fault, c);
-        next = table::with_entry(next, p, after);
+        next.ends[i] = after.end;
+        next.ended[i] = after.ended;
+        next.values[i] = after.value;
         p += 1;
     }
     next
@@ -149,8 +161,18 @@ pub fn crash_count(x: InstanceTable, run: RunTable) -> u8
     let mut f: u8 = 0;
     let mut p: u8 = 1;
     while p <= n {
-        let fault = table::fault_of(x, p);
-        let s = table::entry_of(run, p);
+        let i = (p - 1) as usize;
+        let fault = FaultEntry {
+            round: x.rounds[i],
+            step: x.steps[i],
+            reached: x.sets[i],
+            count: x.counts[i],
+        };
+        let s = Entry {
+            end: run.ends[i],
+            ended: run.ended[i],
+            value: run.values[i],
+        };
         f += count::counts_as_crash(fault, s);
         p += 1;
     }

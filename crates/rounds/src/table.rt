@@ -1,7 +1,7 @@
-// A process's entries in the tables.
+// The entries of one process in the tables. A call copies the table that it takes: the loops over the processes read and store in place instead.
 ghost use mathlib.Core.Path.{_≡_};
 ghost use Prim.Native.Nat.{_≤_};
-ghost use Rattle.rounds.specs.Entries.{entryOf, faultEntryOf, withEntry};
+ghost use Rattle.rounds.specs.Entries.{entryOf, faultEntryOf};
 use crate::Entry;
 use crate::FaultEntry;
 use tables::InstanceTable;
@@ -32,17 +32,4 @@ pub fn entry_of(run: RunTable, p: u8) -> Entry
         ended: run.ended[i],
         value: run.values[i],
     }
-}
-
-// The table with another state of process p.
-pub fn with_entry(run: RunTable, p: u8, s: Entry) -> RunTable
-    requires { ⌜ (1 ≤ p) × (p ≤ 64) ⌝ }
-    ensures { λ result. ⌜ result ≡ withEntry run p s ⌝ }
-{
-    let i = (p - 1) as usize;
-    let mut next = run;
-    next.ends[i] = s.end;
-    next.ended[i] = s.ended;
-    next.values[i] = s.value;
-    next
 }

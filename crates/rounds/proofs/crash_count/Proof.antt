@@ -15,11 +15,38 @@ abbrev μ-loop : tie.MeasureT-loop
 loop-holds : tie.Need-loop-holds Inv-loop μ-loop
 loop-holds c = counted-none _ _
 
-fault-of-requires : tie.Need-fault-of-requires Inv-loop μ-loop
-fault-of-requires c κs = search needs
+sub-i : tie.Need-sub-i Inv-loop μ-loop
+sub-i c = search needs
 
-entry-of-requires : tie.Need-entry-of-requires Inv-loop μ-loop
-entry-of-requires c κs = search needs
+cast-i : tie.Need-cast-i Inv-loop μ-loop
+cast-i c = search needs
+
+element-copy-out-t12 : tie.Need-element-copy-out-t12 Inv-loop μ-loop
+element-copy-out-t12 c = search needs
+
+element-copy-out-f : tie.Need-element-copy-out-f Inv-loop μ-loop
+element-copy-out-f c = search needs
+
+mul-t18 : tie.Need-mul-t18 Inv-loop μ-loop
+mul-t18 c = search needs
+
+element-copy-out-t21 : tie.Need-element-copy-out-t21 Inv-loop μ-loop
+element-copy-out-t21 c = search needs
+
+element-copy-out-t24 : tie.Need-element-copy-out-t24 Inv-loop μ-loop
+element-copy-out-t24 c = search needs
+
+element-copy-out-t12-2 : tie.Need-element-copy-out-t12-2 Inv-loop μ-loop
+element-copy-out-t12-2 c = search needs
+
+element-copy-out-t24-2 : tie.Need-element-copy-out-t24-2 Inv-loop μ-loop
+element-copy-out-t24-2 c = search needs
+
+mul-t18-2 : tie.Need-mul-t18-2 Inv-loop μ-loop
+mul-t18-2 c = search needs
+
+element-copy-out-t31 : tie.Need-element-copy-out-t31 Inv-loop μ-loop
+element-copy-out-t31 c = search needs
 
 counts-as-crash-requires : tie.Need-counts-as-crash-requires Inv-loop μ-loop
 counts-as-crash-requires c κs = search needs
@@ -34,7 +61,7 @@ loop-less : tie.Need-loop-less Inv-loop μ-loop
 loop-less c = omega arith
 
 loop-again : tie.Need-loop-again Inv-loop μ-loop
-loop-again c = counted-more _ _ (search needs) (omega arith) (search needs) _ _ _ _ _ (c .before .before .before .before .loop .inv) (omega arith) (c .before .before .fault-of .ensures) (c .before .entry-of .ensures) (c .counts-as-crash .ensures)
+loop-again c = counted-more _ _ (search needs) (omega arith) (search needs) _ _ _ (search needs) (omega arith) (c .counts-as-crash .ensures)
 
 returns : tie.Need-returns Inv-loop μ-loop
 returns c = counted-all _ _ (search needs) (omega arith) _ _ (c .before .loop .inv) (omega arith)
@@ -46,8 +73,17 @@ crash-count-spec =
     Inv-loop
     μ-loop
     loop-holds
-    fault-of-requires
-    entry-of-requires
+    sub-i
+    cast-i
+    element-copy-out-t12
+    element-copy-out-f
+    mul-t18
+    element-copy-out-t21
+    element-copy-out-t24
+    element-copy-out-t12-2
+    element-copy-out-t24-2
+    mul-t18-2
+    element-copy-out-t31
     counts-as-crash-requires
     add-f
     add-p
