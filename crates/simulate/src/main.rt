@@ -1,7 +1,12 @@
 // simulate: a ticket on standard input, its result or the line of its refusal on standard output (document 01, 'The result').
-// A thin program over the proved library. What it reads and writes no contract can say: the gate compares what it writes.
+// A thin program over the proved library. What is to be written is proved; that the two system calls read and write it no contract
+// can say: the gate compares what the program writes.
+ghost use mathlib.Core.Path.{_≡_};
+ghost use mathlib.Core.List.{_++_};
 ghost use Prim.Native.Nat.{_≤_};
-ghost use lib.ListN.{length};
+ghost use lib.ListN.{length, take, drop};
+ghost use Rattle.result.specs.ResultLine.{resultSize, refusalLine};
+ghost use Rattle.running.specs.Running.{programWrites};
 ghost use Rattle.simulate.specs.Input.{Within};
 use running::RunAnswer;
 
@@ -39,18 +44,40 @@ fn write_front(buffer: &[u8], size: usize)
     io::write_all(1, &buffer[..size]);
 }
 
+// The line of a refusal to the front of a buffer.
+fn put_refusal(out: &mut [u8], number: u8, line: u16)
+    requires { ⌜ 9 ≤ length (now out) ⌝ }
+    ensures { λ r. ⌜ now (out .exit) ≡ refusalLine number line ++ drop 9 (now (out .entry)) ⌝ }
+{
+    let bytes = result::refusal_text(number, line);
+    let mut k = 0;
+    while k < 9 {
+        out[k] = bytes[k];
+        k += 1;
+    }
+}
+
+// Runs a ticket and leaves what is to be written for it at the front of a buffer; answers how many bytes that is.
+fn answer_text(text: &[u8], out: &mut [u8]) -> usize
+    requires { ⌜ length (now out) ≡ resultSize 64 ⌝ }
+    ensures { λ r. ⌜ r ≤ length (now (out .entry)) ⌝ }
+    ensures { λ r. ⌜ take r (now (out .exit)) ≡ programWrites (now (text .entry)) ⌝ }
+{
+    let ran = running::run_ticket(text, out);
+    match ran {
+        RunAnswer::Written(size) => size,
+        RunAnswer::Refused(number, line) => {
+            put_refusal(out, number, line);
+            9
+        }
+    }
+}
+
 // Runs a ticket and writes what it answers.
 fn answer(text: &[u8]) {
     let mut out = [0u8; 1105];
-    let ran = running::run_ticket(text, &mut out);
-    match ran {
-        RunAnswer::Written(size) => {
-            write_front(&out, size);
-        }
-        RunAnswer::Refused(number, line) => {
-            io::write_all(1, &result::refusal_text(number, line));
-        }
-    }
+    let size = answer_text(text, &mut out);
+    write_front(&out, size);
 }
 
 // Answers the ticket at the front of a buffer.
