@@ -35,6 +35,33 @@ pub record Roomy (x : InstanceTable) : Type 0 where
   pub for-sets : x .n ≤ length (x .sets)
   pub for-counts : x .n ≤ length (x .counts)
 
+-- Every array of the table has its 64 places.
+pub record Full (x : InstanceTable) : Type 0 where
+  pub all-values : length (x .values) ≡ 64
+  pub all-rounds : length (x .rounds) ≡ 64
+  pub all-steps : length (x .steps) ≡ 64
+  pub all-sets : length (x .sets) ≡ 64
+  pub all-counts : length (x .counts) ≡ 64
+
+pub full-roomy : (x : InstanceTable) → Full x → x .n ≤ 64 → Roomy x
+full-roomy x full h =
+    record {
+      for-rounds = omega (arith, full .all-rounds);
+      for-steps = omega (arith, full .all-steps);
+      for-sets = omega (arith, full .all-sets);
+      for-counts = omega (arith, full .all-counts);
+    }
+
+pub full-stored : (x : InstanceTable) (l : FailureLine) → Full x → Full (stored x l)
+full-stored x l full =
+    record {
+      all-values = full .all-values;
+      all-rounds = rw length-set (full .all-rounds);
+      all-steps = rw length-set (full .all-steps);
+      all-sets = rw length-set (full .all-sets);
+      all-counts = rw length-set (full .all-counts);
+    }
+
 length-pattern : (x : InstanceTable) → x .n ≤ length (x .rounds) → length (instanceOf x .pattern) ≡ x .n
 unfolding instanceOf
 length-pattern x h = length-mapFrom (faultIn x) 1 (take (x .n) (x .rounds)) ∙ length-take (x .n) (x .rounds) ∙ omega arith

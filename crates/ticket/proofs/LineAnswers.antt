@@ -10,10 +10,12 @@ use lib.ListN.{length, getD, take, drop}
 use borrow.Author.Tests.{eq-eqb, ne-eqb, le-leb, lt-leb, not-true, not-false}
 use Rattle.general.specs.BigEndian.{number}
 use Rattle.protocol.specs.Instance.{Instance, withinLimits}
+use Rattle.tables.specs.InstanceReading.{instanceOf}
+use Rattle.tables.specs.declared.InstanceTable.{InstanceTable}
 use Rattle.lines.specs.Bytes.{byteAt, bytesAt}
 use Rattle.lines.proofs.Bytes.{length-bytesAt, getD-bytesAt, take-bytesAt, drop-bytesAt}
-use Rattle.ticket.specs.Reading.{next, refuse}
-use Rattle.ticket.specs.Accept.{proposals, failures, ended, isKind, acceptHeader, afterProposal, acceptProposal, FailureLine, failureLine, placesCrash, suitsStep, withCrash, acceptCrash, acceptFailure}
+use Rattle.ticket.specs.Reading.{Step, next, refuse}
+use Rattle.ticket.specs.Accept.{Stage, proposals, failures, ended, isKind, acceptHeader, afterProposal, acceptProposal, FailureLine, failureLine, placesCrash, suitsStep, withCrash, acceptCrash, acceptFailure}
 
 -- The kind of a line.
 module _ (text : List ℕ) (at size kind wanted : ℕ) where
@@ -85,14 +87,14 @@ module _ (text : List ℕ) (at size n t : ℕ) (values : List ℕ) where
           rw (of-kind text at size 2 6 first e (omega arith) six kind, station, ec, ne-eqb p (suc count) other)
 
       pub proposal-next : (p ≡ count + 1) → (v : ℕ) → v ≡ number (bytesAt text (at + 2 * 2) 4)
-          → acceptProposal n t values (bytesAt text at size) ≡ next (afterProposal n t (values ++ (v ∷ [])))
+          → (step : Step Stage) → step ≡ next (afterProposal n t (values ++ (v ∷ []))) → step ≡ acceptProposal n t values (bytesAt text at size)
       unfolding acceptProposal
-      proposal-next h v ev =
+      proposal-next h v ev step goes =
           let own : p ≡ suc (length values) = omega arith in
           let four : size - 2 ≡ 4 = omega arith in
           let value : number (drop 2 (bytesAt text at size)) ≡ v =
           ap number (drop-bytesAt text at size 2 (omega arith) ∙ ap (bytesAt text (at + 2 * 2)) four) ∙ sym ev in
-          rw (of-kind text at size 2 6 first e (omega arith) six kind, station, eq-eqb p (suc (length values)) own, value)
+          rw (of-kind text at size 2 6 first e (omega arith) six kind, station, eq-eqb p (suc (length values)) own, value) goes
 
 -- Station, round, step, set and count of a failure line.
 pub crash-fields : (text : List ℕ) (at p round step reached count : ℕ) → p ≡ byteAt text (at + 2 * 1) → round ≡ byteAt text (at + 2 * 2)
@@ -115,26 +117,25 @@ crash-fields text at p round step reached count ep er es et ec =
       set,
     )
 
--- A failure line whose kind and length are right.
-module _ (x : Instance) (lines last : ℕ) (l : FailureLine) where
-  pub crash-many : x .resilience ≤ lines → acceptCrash x lines last l ≡ refuse 6
-  unfolding acceptCrash
-  crash-many h = rw (le-leb (x .resilience) lines h)
+-- A failure line whose kind and length are right, at a table of which this is n and this t.
+module _ (x : InstanceTable) (n t lines last : ℕ) (l : FailureLine) (en : x .n ≡ n) (et : x .t ≡ t) where
+  pub crash-many : t ≤ lines → acceptCrash (instanceOf x) lines last l ≡ refuse 6
+  unfolding acceptCrash instanceOf
+  crash-many h = rw (et, le-leb t lines h)
 
-  module _ (few : lines < x .resilience) (placed : Bool) (ep : placed ≡ placesCrash (x .processes) (x .resilience) last l) where
-    pub crash-unplaced : not placed ≡ true → acceptCrash x lines last l ≡ refuse 7
-    unfolding acceptCrash
-    crash-unplaced h = rw (lt-leb (x .resilience) lines few, ← ep, h)
+  module _ (few : lines < t) (placed : Bool) (ep : placed ≡ placesCrash n t last l) where
+    pub crash-unplaced : not placed ≡ true → acceptCrash (instanceOf x) lines last l ≡ refuse 7
+    unfolding acceptCrash instanceOf
+    crash-unplaced h = rw (en, et, lt-leb t lines few, ← ep, h)
 
-    module _ (hp : not placed ≡ false) (suits : Bool) (es : suits ≡ suitsStep (x .processes) l) where
-      pub crash-unsuited : not suits ≡ true → acceptCrash x lines last l ≡ refuse 8
-      unfolding acceptCrash
-      crash-unsuited h = rw (lt-leb (x .resilience) lines few, ← ep, hp, ← es, h)
+    module _ (hp : not placed ≡ false) (suits : Bool) (es : suits ≡ suitsStep n l) where
+      pub crash-unsuited : not suits ≡ true → acceptCrash (instanceOf x) lines last l ≡ refuse 8
+      unfolding acceptCrash instanceOf
+      crash-unsuited h = rw (en, et, lt-leb t lines few, ← ep, hp, ← es, h)
 
-      pub crash-next : not suits ≡ false → (y : Instance) → y ≡ withCrash x l
-          → next (failures y (lines + 1) (l .process)) ≡ acceptCrash x lines last l
-      unfolding acceptCrash
-      crash-next h y e = rw (lt-leb (x .resilience) lines few, ← ep, hp, ← es, h, e, add-one)
+      pub crash-next : not suits ≡ false → next (failures (withCrash (instanceOf x) l) (lines + 1) (l .process)) ≡ acceptCrash (instanceOf x) lines last l
+      unfolding acceptCrash instanceOf
+      crash-next h = rw (en, et, lt-leb t lines few, ← ep, hp, ← es, h, add-one)
 
 -- 03 and a failure line's bytes; or 04.
 module _ (text : List ℕ) (at size : ℕ) (x : Instance) (lines last : ℕ) where

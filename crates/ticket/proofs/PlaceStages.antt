@@ -7,32 +7,39 @@ use Rattle.tables.specs.InstanceReading.{instanceOf}
 use Rattle.tables.specs.declared.InstanceTable.{InstanceTable}
 use Rattle.ticket.specs.Reading.{refuse}
 use Rattle.ticket.specs.Accept.{acceptHeader, acceptProposal, acceptFailure, accept}
-use Rattle.ticket.specs.Progress.{stageOf, HasPlaces}
+use Rattle.ticket.specs.Progress.{stageOf, stepOf, Storable, HasPlaces, Crashless, Holds}
 use Rattle.ticket.specs.declared.accept.Place.{Place}
 use Rattle.ticket.specs.declared.accept.Place.the-variants.{Header, Proposals, Failures, Ended}
+use Rattle.ticket.specs.declared.accept.LineAnswer.{LineAnswer}
 
-module _ (place : Place) (table : InstanceTable) where
-  pub has-proposals : {count : ℕ} → place ≡ Proposals count → HasPlaces place table → (count < table .n) × (table .n ≤ 64)
+module _ (place : Place) (n : ℕ) where
+  pub has-proposals : {count : ℕ} → place ≡ Proposals count → HasPlaces place n → (count < n) × (n ≤ 64)
   unfolding HasPlaces
   has-proposals e h = rw e at h
 
-  pub has-failures : {lines last : ℕ} → place ≡ Failures lines last → HasPlaces place table → table .n ≤ 64
+  pub has-failures : {lines last : ℕ} → place ≡ Failures lines last → HasPlaces place n → n ≤ 64
   unfolding HasPlaces
   has-failures e h = rw e at h
 
-  module _ (b : List ℕ) where
-    pub at-header : place ≡ Header → acceptHeader b ≡ accept (stageOf place table) b
-    unfolding accept stageOf
-    at-header e = rw e
+module _ (place : Place) (n t : ℕ) (b : List ℕ) where
+  -- An answer that can be stored, and is what the stage makes of the line at every table that holds what is known there.
+  abbrev Answers : LineAnswer → Type 0
+  Answers r = Storable place n r × ((x : InstanceTable) → Holds place n t x → stepOf r x ≡ accept (stageOf place x) b)
 
-    pub at-proposals : {count : ℕ} → place ≡ Proposals count → acceptProposal (table .n) (table .t) (take count (table .values)) b ≡ accept (stageOf place table) b
-    unfolding accept stageOf
-    at-proposals e = rw e
+  pub at-header : (r : LineAnswer) → place ≡ Header → ((m : ℕ) → Storable Header m r) → ((x : InstanceTable) → stepOf r x ≡ acceptHeader b) → Answers r
+  unfolding accept stageOf
+  at-header r e s h = rw e (s n, λ x known. h x)
 
-    pub at-failures : {lines last : ℕ} → place ≡ Failures lines last → acceptFailure (instanceOf table) lines last b ≡ accept (stageOf place table) b
-    unfolding accept stageOf
-    at-failures e = rw e
+  pub at-proposals : (r : LineAnswer) → {count : ℕ} → place ≡ Proposals count → Storable (Proposals count) n r
+      → ((x : InstanceTable) → Crashless n x → stepOf r x ≡ acceptProposal (x .n) (x .t) (take count (x .values)) b) → Answers r
+  unfolding accept stageOf Holds
+  at-proposals r e s h = rw e (s, h)
 
-    pub past-end : place ≡ Ended → refuse 3 ≡ accept (stageOf place table) b
-    unfolding accept stageOf
-    past-end e = rw e
+  pub at-failures : (r : LineAnswer) → {lines last : ℕ} → place ≡ Failures lines last → Storable (Failures lines last) n r
+      → ((x : InstanceTable) → x .n ≡ n → x .t ≡ t → stepOf r x ≡ acceptFailure (instanceOf x) lines last b) → Answers r
+  unfolding accept stageOf Holds
+  at-failures r e s h = rw e (s, λ x known. h x (known .0) (known .1))
+
+  pub past-end : place ≡ Ended → (x : InstanceTable) → Holds place n t x → refuse 3 ≡ accept (stageOf place x) b
+  unfolding accept stageOf
+  past-end e x known = rw e

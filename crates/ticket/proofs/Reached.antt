@@ -1,10 +1,10 @@
 -- Where the reading of a ticket stands between two lines, and what the next line makes of it. Assumes nothing.
 use mathlib.Core.List.{List}
-use mathlib.Core.Path.{_≡_, sym, ap, _∙_, subst}
+use mathlib.Core.Path.{_≡_, refl, sym, ap, _∙_, subst}
 use Prim.Native.Nat.{ℕ, suc, _+_, _≤_, _<_, min}
 use native.Mathlib.Numerals.{add-one}
 use native.Mathlib.Omega.{arith}
-use lib.ListN.{length, drop, length-take}
+use lib.ListN.{length, drop, replicate, length-take, length-set}
 use borrow.Author.Tests.{le-ltb, lt-ltb}
 use Rattle.lines.specs.Line.{linesOf}
 use Rattle.lines.specs.Bytes.{bytesAt}
@@ -13,18 +13,21 @@ use Rattle.lines.specs.LineAt.{LineAt}
 use Rattle.lines.specs.declared.Cursor.{Cursor}
 use Rattle.lines.specs.declared.LineRead.the-variants.{NoLine}
 use Rattle.lines.proofs.Read.{read-no-line, lines-at-end}
+use Rattle.protocol.specs.Instance.{Instance}
 use Rattle.tables.specs.InstanceReading.{instanceOf}
 use Rattle.tables.specs.declared.InstanceTable.{InstanceTable}
-use Rattle.ticket.specs.Reading.{refused, next, refuse, proceed, readFrom}
-use Rattle.ticket.specs.Accept.{accept}
+use Rattle.ticket.specs.Reading.{refused, next, proceed, readFrom}
+use Rattle.ticket.specs.Accept.{failures, withCrash, accept}
 use Rattle.ticket.specs.Ticket.{ticketLimit, atEnd, readTicket}
-use Rattle.ticket.specs.Progress.{stageOf, HasPlaces, stepFrom}
+use Rattle.ticket.specs.Progress.{lineOf, stageOf, stepOf, Storable, HasPlaces, Holds, withLimits, withValue}
+use Rattle.ticket.specs.declared.checks.CrashLine.{CrashLine}
 use Rattle.ticket.specs.declared.accept.Place.{Place}
 use Rattle.ticket.specs.declared.accept.Place.the-variants.{Header, Proposals, Failures, Ended}
 use Rattle.ticket.specs.declared.accept.LineAnswer.{LineAnswer}
-use Rattle.ticket.specs.declared.accept.LineAnswer.the-variants.{Next, Refused}
+use Rattle.ticket.specs.declared.accept.LineAnswer.the-variants.{Limits, Proposal, Crash, End, Refused}
 use Rattle.ticket.proofs.LineBytes.{Bytes, Lines, lines-bytes}
 use Rattle.ticket.proofs.Keeping.{Keeps}
+use Rattle.ticket.proofs.CrashTable.{stored, Full, full-roomy, full-stored, crash-stored}
 use Rattle.ticket.proofs.WellFormed.{StageAllowed, stage-keeps}
 
 -- Too long a text.
@@ -33,7 +36,7 @@ unfolding readTicket
 too-long text h = rw (lt-ltb ticketLimit (length text) h)
 
 -- A stage that is allowed has its places in the table.
-pub allowed-places : (place : Place) (table : InstanceTable) → length (table .values) ≡ 64 → StageAllowed (stageOf place table) → HasPlaces place table
+pub allowed-places : (place : Place) (table : InstanceTable) → length (table .values) ≡ 64 → StageAllowed (stageOf place table) → HasPlaces place (table .n)
 unfolding StageAllowed stageOf HasPlaces instanceOf
 allowed-places Header table h g = tt
 allowed-places (Proposals count) table h g =
@@ -42,23 +45,52 @@ allowed-places (Proposals count) table h g =
 allowed-places (Failures lines last) table h g = g .well-formed .at-most-64
 allowed-places Ended table h g = tt
 
+-- Up to the failure lines no process has a crash round.
+unfoldable pub NoCrash : Place → InstanceTable → Type 0
+NoCrash Header table = table .rounds ≡ replicate 64 0
+NoCrash (Proposals count) table = table .rounds ≡ replicate 64 0
+NoCrash (Failures lines last) table = Unit {0}
+NoCrash Ended table = Unit {0}
+
+no-rounds : (place : Place) (table : InstanceTable) → table .rounds ≡ replicate 64 0 → NoCrash place table
+unfolding NoCrash
+no-rounds Header table h = h
+no-rounds (Proposals count) table h = h
+no-rounds (Failures lines last) table h = tt
+no-rounds Ended table h = tt
+
+-- So the table holds what is known at its place.
+held : (place : Place) (table : InstanceTable) → length (table .values) ≡ 64 → NoCrash place table → Holds place (table .n) (table .t) table
+unfolding NoCrash Holds
+held Header table h g = tt
+held (Proposals count) table h g = record { processes = refl; places = h; no-rounds = g }
+held (Failures lines last) table h g = (refl, refl)
+held Ended table h g = tt
+
 -- The reading stands at line k, which begins at `at`: what is left is read on from here.
 pub record Reached (text : List ℕ) (table : InstanceTable) (at : ℕ) (place : Place) (k : ℕ) : Type 0 where
   pub short : length text ≤ 4096
   pub inside : at ≤ length text
   pub counted : k ≤ at + 1
-  pub places : length (table .values) ≡ 64
+  pub full : Full table
+  pub no-crash : NoCrash place table
   pub allowed : StageAllowed (stageOf place table)
   pub same : readTicket text ≡ readFrom accept atEnd (stageOf place table) k (linesOf (drop at text))
 
-pub reached-start : (text : List ℕ) (table : InstanceTable) → length text ≤ 4096 → length (table .values) ≡ 64 → Reached text table 0 Header 1
+-- The same table at the same place.
+pub same-place : {text : List ℕ} {table after : InstanceTable} {at k : ℕ} {place to : Place} → table ≡ after → place ≡ to → Reached text after at to k → Reached text table at place k
+same-place e p h = rw (e, p) h
+
+pub reached-start : (text : List ℕ) (table : InstanceTable) → length text ≤ 4096 → Full table → table .rounds ≡ replicate 64 0
+    → Reached text table 0 Header 1
 unfolding readTicket stageOf StageAllowed
-reached-start text table h g =
+reached-start text table h g none =
     record {
       short = h;
       inside = omega arith;
       counted = omega arith;
-      places = g;
+      full = g;
+      no-crash = no-rounds Header table none;
       allowed = tt;
       same = rw (le-ltb ticketLimit (length text) h);
     }
@@ -85,22 +117,70 @@ module _ (text : List ℕ) (table : InstanceTable) (at : ℕ) (place : Place) (k
     unfolding readFrom
     proceeds = here .same ∙ ap (readFrom accept atEnd (stageOf place table) k) (line .lines)
 
-    module _ (answer : LineAnswer) (after : InstanceTable) (step : stepFrom answer after ≡ accept (stageOf place table) (bytesAt text at size)) where
-      pub reached-refused : (number : ℕ) → answer ≡ Refused number → refused number k ≡ readTicket text
-      unfolding proceed
-      reached-refused number e =
-          let refuses : accept (stageOf place table) (bytesAt text at size) ≡ refuse number = sym step ∙ ap (λ (a : LineAnswer). stepFrom a after) e in
-          sym (proceeds ∙ rw refuses)
+    -- The stores keep the places.
+    full-limits : (n t : ℕ) → Full (withLimits table n t)
+    full-limits n t = let f = here .full in
+        record { all-values = f .all-values; all-rounds = f .all-rounds; all-steps = f .all-steps; all-sets = f .all-sets; all-counts = f .all-counts }
 
-      pub reached-next : (to : Place) → answer ≡ Next to → length (after .values) ≡ 64 → Reached text after (then .at) to (k + 1)
-      unfolding proceed Keeps
-      reached-next to e g =
-          let goes : accept (stageOf place table) (bytesAt text at size) ≡ next (stageOf to after) = sym step ∙ ap (λ (a : LineAnswer). stepFrom a after) e in
-          record {
-            short = here .short;
-            inside = line .inside;
-            counted = omega arith;
-            places = g;
-            allowed = rw goes at (stage-keeps (stageOf place table) (bytesAt text at size) line-bytes (here .allowed));
-            same = rw (add-one) (proceeds ∙ rw goes);
-          }
+    full-value : (count v : ℕ) → Full (withValue table count v)
+    full-value count v = let f = here .full in
+        record { all-values = rw length-set (f .all-values); all-rounds = f .all-rounds; all-steps = f .all-steps; all-sets = f .all-sets; all-counts = f .all-counts }
+
+    -- Where the line leads.
+    goes-on : (to : Place) (after : InstanceTable) → next (stageOf to after) ≡ accept (stageOf place table) (bytesAt text at size)
+        → Full after → NoCrash to after → Reached text after (then .at) to (k + 1)
+    unfolding proceed Keeps
+    goes-on to after step g none =
+        record {
+          short = here .short;
+          inside = line .inside;
+          counted = omega arith;
+          full = g;
+          no-crash = none;
+          allowed = rw (← step) at (stage-keeps (stageOf place table) (bytesAt text at size) line-bytes (here .allowed));
+          same = rw (add-one) (proceeds ∙ rw (← step));
+        }
+
+    -- An answer to the line, as `accept_line` gives it.
+    module _ (answer : LineAnswer)
+        (given : Storable place (table .n) answer × ((x : InstanceTable) → Holds place (table .n) (table .t) x → stepOf answer x ≡ accept (stageOf place x) (bytesAt text at size))) where
+      step : (said : LineAnswer) → answer ≡ said → stepOf said table ≡ accept (stageOf place table) (bytesAt text at size)
+      step said e = ap (λ (a : LineAnswer). stepOf a table) (sym e) ∙ given .1 table (held place table (here .full .all-values) (here .no-crash))
+
+      storable : (said : LineAnswer) → answer ≡ said → Storable place (table .n) said
+      storable said e = subst (Storable place (table .n)) e (given .0)
+
+      pub proposal-place : {count v : ℕ} {to : Place} → answer ≡ Proposal count v to → count < 64
+      proposal-place e = let known = storable _ e in omega (arith, known .1)
+
+      pub crash-place : {lines : ℕ} {l : CrashLine} → answer ≡ Crash lines l → (1 ≤ l .process) × (l .process ≤ table .n) × (table .n ≤ 64) × (1 ≤ l .round)
+      crash-place e = storable _ e
+
+      pub reached-refused : {number : ℕ} → answer ≡ Refused number → refused number k ≡ readTicket text
+      unfolding proceed
+      reached-refused e = sym (proceeds ∙ rw (← step _ e))
+
+      pub reached-limits : {n t : ℕ} → answer ≡ Limits n t → Reached text (withLimits table n t) (then .at) (Proposals 0) (k + 1)
+      unfolding NoCrash stageOf
+      reached-limits {n} {t} e =
+          let first : place ≡ Header = storable _ e in
+          goes-on (Proposals 0) (withLimits table n t) (step _ e) (full-limits n t) (subst (λ (p : Place). NoCrash p table) first (here .no-crash))
+
+      pub reached-proposal : {count v : ℕ} {to : Place} → answer ≡ Proposal count v to → Reached text (withValue table count v) (then .at) to (k + 1)
+      unfolding NoCrash
+      reached-proposal {count} {v} {to} e =
+          let at-count : place ≡ Proposals count = storable _ e .0 in
+          let none : table .rounds ≡ replicate 64 0 = subst (λ (p : Place). NoCrash p table) at-count (here .no-crash) in
+          goes-on to (withValue table count v) (step _ e) (full-value count v) (no-rounds to (withValue table count v) none)
+
+      pub reached-crash : {lines : ℕ} {l : CrashLine} → answer ≡ Crash lines l → Reached text (stored table (lineOf l)) (then .at) (Failures lines (l .process)) (k + 1)
+      unfolding NoCrash stageOf
+      reached-crash {lines} {l} e =
+          let inside = crash-place e in
+          let after = crash-stored table (lineOf l) (full-roomy table (here .full) (inside .2)) (inside .0) (inside .1) (inside .3) in
+          goes-on (Failures lines (l .process)) (stored table (lineOf l)) (ap (λ (x : Instance). next (failures x lines (l .process))) after ∙ step _ e)
+          (full-stored table (lineOf l) (here .full)) tt
+
+      pub reached-ended : answer ≡ End → Reached text table (then .at) Ended (k + 1)
+      unfolding NoCrash stageOf
+      reached-ended e = goes-on Ended table (step _ e) (here .full) tt

@@ -13,19 +13,15 @@ use Rattle.tables.specs.InstanceReading.{faultFrom, faultIn, instanceOf}
 use Rattle.tables.specs.declared.InstanceTable.{InstanceTable}
 use Rattle.ticket.specs.Reading.{next}
 use Rattle.ticket.specs.Accept.{proposals, failures, afterProposal}
+use Rattle.ticket.specs.Progress.{Crashless, withValue}
 
 -- One proposal more.
-module _ (n t count v : ℕ) (values : List ℕ) (inside : count < length values) where
+module _ (count v : ℕ) (values : List ℕ) (inside : count < length values) where
   one-more : take (count + 1) (set values count v) ≡ take count values ++ (v ∷ [])
   one-more = rw add-one (take-suc-set values count v inside)
 
   length-more : length (take count values ++ (v ∷ [])) ≡ count + 1
   length-more = rw (length-append, length-take-le count values (omega arith))
-
-  pub proposals-left : (count + 1 ≡ n → ⊥)
-      → next (proposals n t (take (count + 1) (set values count v))) ≡ next (afterProposal n t (take count values ++ (v ∷ [])))
-  unfolding afterProposal
-  proposals-left h = rw (length-more, ne-eqb (count + 1) n h, one-more)
 
 -- A table without crash rounds.
 take-replicate : (n m a : ℕ) → n ≤ m → take n (replicate m a) ≡ replicate n a
@@ -38,14 +34,32 @@ unfolding mapFrom faultIn faultFrom
 all-correct x zero i = refl
 all-correct x (suc n) i = ap (λ (l : List Fault). correct ∷ l) (all-correct x n (suc i))
 
-module _ (x : InstanceTable) (count v : ℕ) (values : List ℕ) (inside : count < length values) (filled : x .values ≡ set values count v) where
-  pub proposals-done : count + 1 ≡ x .n → x .n ≤ 64 → x .rounds ≡ replicate 64 0
-      → next (failures (instanceOf x) 0 0) ≡ next (afterProposal (x .n) (x .t) (take count values ++ (v ∷ [])))
-  unfolding afterProposal instanceOf
-  proposals-done h g none =
-      let all : take count values ++ (v ∷ []) ≡ take (x .n) (x .values) = rw (filled, ← h) (sym (one-more (x .n) (x .t) count v values inside)) in
-      let whole : length (take count values ++ (v ∷ [])) ≡ x .n = length-more (x .n) (x .t) count v values inside ∙ h in
-      let pattern : replicate (x .n) correct ≡ mapFrom (faultIn x) 1 (take (x .n) (x .rounds)) =
-      sym (ap (λ (l : List ℕ). mapFrom (faultIn x) 1 (take (x .n) l)) none ∙ ap (mapFrom (faultIn x) 1) (take-replicate (x .n) 64 0 g) ∙ all-correct x (x .n) 1) in
-      rw (eq-eqb _ _ whole)
-      (ap₂ (λ (l : List ℕ) (m : List Fault). next (failures (record { processes = x .n; resilience = x .t; proposals = l; pattern = m }) 0 0)) (sym all) (sym pattern))
+-- A table in which no process has a crash round, after `count` of n proposals.
+module _ (x : InstanceTable) (n count : ℕ) (known : Crashless n x) (left : count < n) (few : n ≤ 64) where
+  inside : count < length (x .values)
+  inside = omega (arith, known .places)
+
+  -- There are as many proposals as are counted.
+  pub proposed : length (take count (x .values)) ≡ count
+  proposed = length-take-le count (x .values) (omega (arith, inside))
+
+  module _ (v : ℕ) where
+    pub proposals-left : (count + 1 ≡ n → ⊥)
+        → next (proposals (x .n) (x .t) (take (count + 1) (set (x .values) count v))) ≡ next (afterProposal (x .n) (x .t) (take count (x .values) ++ (v ∷ [])))
+    unfolding afterProposal
+    proposals-left h =
+        let more : count + 1 ≡ x .n → ⊥ = λ e. h (e ∙ known .processes) in
+        rw (length-more count v (x .values) inside, ne-eqb (count + 1) (x .n) more, one-more count v (x .values) inside)
+
+    pub proposals-done : count + 1 ≡ n
+        → next (failures (instanceOf (withValue x count v)) 0 0) ≡ next (afterProposal (x .n) (x .t) (take count (x .values) ++ (v ∷ [])))
+    unfolding afterProposal instanceOf
+    proposals-done h =
+        let last : count + 1 ≡ x .n = h ∙ sym (known .processes) in
+        let y = withValue x count v in
+        let all : take count (x .values) ++ (v ∷ []) ≡ take (x .n) (set (x .values) count v) = rw (← last) (sym (one-more count v (x .values) inside)) in
+        let whole : length (take count (x .values) ++ (v ∷ [])) ≡ x .n = length-more count v (x .values) inside ∙ last in
+        let pattern : replicate (x .n) correct ≡ mapFrom (faultIn y) 1 (take (x .n) (x .rounds)) =
+        sym (ap (λ (l : List ℕ). mapFrom (faultIn y) 1 (take (x .n) l)) (known .no-rounds) ∙ ap (mapFrom (faultIn y) 1) (take-replicate (x .n) 64 0 (omega (arith, known .processes))) ∙ all-correct y (x .n) 1) in
+        rw (eq-eqb _ _ whole)
+        (ap₂ (λ (l : List ℕ) (m : List Fault). next (failures (record { processes = x .n; resilience = x .t; proposals = l; pattern = m }) 0 0)) (sym all) (sym pattern))

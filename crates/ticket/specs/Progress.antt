@@ -1,16 +1,17 @@
 -- What the values stand for that the code carries from line to line: a failure line, the place in a ticket, the answer to a line.
-use Prim.Native.Nat.{_≤_, _<_}
-use lib.ListN.{take}
+use mathlib.Core.Path.{_≡_}
+use Prim.Native.Nat.{ℕ, _≤_, _<_}
+use mathlib.Core.List.{[]}
+use lib.ListN.{length, take, set, replicate}
 use Rattle.tables.specs.InstanceReading.{instanceOf}
 use Rattle.tables.specs.declared.InstanceTable.{InstanceTable}
 use Rattle.ticket.specs.Reading.{Step, next, refuse}
-use Rattle.ticket.specs.Accept.{Stage, header, proposals, failures, ended, FailureLine}
+use Rattle.ticket.specs.Accept.{Stage, header, proposals, failures, ended, FailureLine, withCrash}
 use Rattle.ticket.specs.declared.checks.CrashLine.{CrashLine}
 use Rattle.ticket.specs.declared.accept.Place.{Place}
 use Rattle.ticket.specs.declared.accept.Place.the-variants.{Header, Proposals, Failures, Ended}
 use Rattle.ticket.specs.declared.accept.LineAnswer.{LineAnswer}
-use Rattle.ticket.specs.declared.accept.LineAnswer.the-variants.{Next, Refused}
-use Rattle.ticket.specs.declared.accept.LineTaken.{LineTaken}
+use Rattle.ticket.specs.declared.accept.LineAnswer.the-variants.{Limits, Proposal, Crash, End, Refused}
 
 -- A failure line.
 abbrev pub lineOf : CrashLine → FailureLine
@@ -23,17 +24,64 @@ stageOf (Proposals count) table = proposals (table .n) (table .t) (take count (t
 stageOf (Failures lines last) table = failures (instanceOf table) lines last
 stageOf Ended table = ended (instanceOf table)
 
--- The table has a place for every process that a line here can name.
-unfoldable pub HasPlaces : Place → InstanceTable → Type 0
-HasPlaces Header table = Unit {0}
-HasPlaces (Proposals count) table = (count < table .n) × (table .n ≤ 64)
-HasPlaces (Failures lines last) table = table .n ≤ 64
-HasPlaces Ended table = Unit {0}
+-- There is a place for every process that a line here can name, of n.
+unfoldable pub HasPlaces : Place → ℕ → Type 0
+HasPlaces Header n = Unit {0}
+HasPlaces (Proposals count) n = (count < n) × (n ≤ 64)
+HasPlaces (Failures lines last) n = n ≤ 64
+HasPlaces Ended n = Unit {0}
 
-abbrev pub stepFrom : LineAnswer → InstanceTable → Step Stage
-stepFrom (Next place) table = next (stageOf place table)
-stepFrom (Refused number) table = refuse number
+-- A table of n processes in which no process has a crash round.
+pub record Crashless (n : ℕ) (x : InstanceTable) : Type 0 where
+  pub processes : x .n ≡ n
+  pub places : length (x .values) ≡ 64
+  pub no-rounds : x .rounds ≡ replicate 64 0
 
--- What a line was answered with.
-abbrev pub stepOf : LineTaken → Step Stage
-stepOf r = stepFrom (r .answer) (r .table)
+-- A table that holds what is known at a place, n and t among it.
+unfoldable pub Holds : Place → (n t : ℕ) → InstanceTable → Type 0
+Holds Header n t x = Unit {0}
+Holds (Proposals count) n t x = Crashless n x
+Holds (Failures lines last) n t x = (x .n ≡ n) × (x .t ≡ t)
+Holds Ended n t x = Unit {0}
+
+-- The table with n and t.
+abbrev pub withLimits : InstanceTable → (n t : ℕ) → InstanceTable
+withLimits x n t =
+    record {
+      n = n;
+      t = t;
+      values = x .values;
+      rounds = x .rounds;
+      steps = x .steps;
+      sets = x .sets;
+      counts = x .counts;
+    }
+
+-- The table with one value more.
+abbrev pub withValue : InstanceTable → (count v : ℕ) → InstanceTable
+withValue x count v =
+    record {
+      n = x .n;
+      t = x .t;
+      values = set (x .values) count v;
+      rounds = x .rounds;
+      steps = x .steps;
+      sets = x .sets;
+      counts = x .counts;
+    }
+
+-- What a line is answered with, at a table.
+abbrev pub stepOf : LineAnswer → InstanceTable → Step Stage
+stepOf (Limits n t) x = next (proposals n t [])
+stepOf (Proposal count v to) x = next (stageOf to (withValue x count v))
+stepOf (Crash lines l) x = next (failures (withCrash (instanceOf x) (lineOf l)) lines (l .process))
+stepOf End x = next (ended (instanceOf x))
+stepOf (Refused number) x = refuse number
+
+-- What a line says is what a line can say at this place, and the table has a place for it among those of n processes.
+abbrev pub Storable : Place → ℕ → LineAnswer → Type 0
+Storable place n (Limits m t) = place ≡ Header
+Storable place n (Proposal count v to) = (place ≡ Proposals count) × (count < n) × (n ≤ 64)
+Storable place n (Crash lines l) = (1 ≤ l .process) × (l .process ≤ n) × (n ≤ 64) × (1 ≤ l .round)
+Storable place n End = Unit {0}
+Storable place n (Refused number) = Unit {0}

@@ -8,6 +8,9 @@ use lines::Cursor;
 use lines::LineRead;
 use tables::InstanceTable;
 ghost use mathlib.Core.Path.{_≡_};
+ghost use Prim.Native.Nat.{_≤_};
+ghost use lib.ListN.{length, replicate};
+ghost use Rattle.ticket.specs.Reading.{refused};
 ghost use Rattle.ticket.specs.Ticket.{atEnd, readTicket};
 ghost use Rattle.ticket.specs.Progress.{stageOf};
 ghost use Rattle.ticket.specs.Answer.{readingOf};
@@ -27,8 +30,10 @@ pub struct TicketRead {
     pub table: InstanceTable,
 }
 
-// The table before the first line.
-fn blank() -> InstanceTable {
+// The table before the first line: no process has a crash round.
+fn blank() -> InstanceTable
+    ensures { λ r. ⌜ r .rounds ≡ replicate 64 0 ⌝ }
+{
     InstanceTable {
         n: 0,
         t: 0,
@@ -37,6 +42,16 @@ fn blank() -> InstanceTable {
         steps: [0u8; 64],
         sets: [0u64; 64],
         counts: [0u8; 64],
+    }
+}
+
+// A ticket that is refused at line k.
+fn refused_at(number: u8, k: u16, table: InstanceTable) -> TicketRead
+    ensures { λ r. ⌜ readingOf r ≡ refused number k ⌝ }
+{
+    TicketRead {
+        answer: Answer::Refused(number, k),
+        table,
     }
 }
 
@@ -56,44 +71,54 @@ fn finished(place: Place, table: InstanceTable, k: u16) -> TicketRead
     }
 }
 
-// Reads a ticket line by line; k is the number of the line at the cursor.
-pub fn read_ticket(text: &[u8]) -> TicketRead
+// Reads the lines of a ticket; k is the number of the line at the cursor.
+fn read_lines(text: &[u8]) -> TicketRead
+    requires { ⌜ length (now text) ≤ 4096 ⌝ }
     ensures { λ r. ⌜ readingOf r ≡ readTicket (now (text .entry)) ⌝ }
 {
     let mut table = blank();
-    if TICKET_LIMIT < text.len() {
-        return TicketRead {
-            answer: Answer::Refused(1, 0),
-            table,
-        };
-    }
     let mut here = Cursor::new();
     let mut place = Place::Header;
     let mut k: u16 = 1;
     while here.at < text.len() {
-        let at = here.at;
-        let LineRead::Line { size, next } = here.read(text) else {
-            return TicketRead {
-                answer: Answer::Refused(2, k),
-                table,
-            };
+        let LineRead::Line { size, next } = reader::read_line(text, here.at) else {
+            return refused_at(2, k, table);
         };
-        let taken = accept::accept_line(text, at, size, place, table);
-        let answer = taken.answer;
-        table = taken.table;
+        let answer = accept::accept_line(text, here.at, size, place, table.n, table.t);
         match answer {
-            LineAnswer::Next(p) => {
-                place = p;
+            LineAnswer::Limits(n, t) => {
+                table.n = n;
+                table.t = t;
+                place = Place::Proposals(0);
             }
-            LineAnswer::Refused(number) => {
-                return TicketRead {
-                    answer: Answer::Refused(number, k),
-                    table,
-                };
+            LineAnswer::Proposal(count, value, to) => {
+                let i = count as usize;
+                table.values[i] = value;
+                place = to;
             }
+            LineAnswer::Crash(lines, l) => {
+                let i = (l.process - 1) as usize;
+                table.rounds[i] = l.round;
+                table.steps[i] = l.step;
+                table.sets[i] = l.reached;
+                table.counts[i] = l.count;
+                place = Place::Failures(lines, l.process);
+            }
+            LineAnswer::End => place = Place::Ended,
+            LineAnswer::Refused(number) => return refused_at(number, k, table),
         }
         here = next;
         k += 1;
     }
     finished(place, table, k)
+}
+
+// Reads a ticket, unless it is too long.
+pub fn read_ticket(text: &[u8]) -> TicketRead
+    ensures { λ r. ⌜ readingOf r ≡ readTicket (now (text .entry)) ⌝ }
+{
+    if TICKET_LIMIT < text.len() {
+        return refused_at(1, 0, blank());
+    }
+    read_lines(text)
 }

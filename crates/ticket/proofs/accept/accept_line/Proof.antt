@@ -1,5 +1,4 @@
 -- `accept_line` meets its contract. Assumes nothing.
-use mathlib.Core.Path.{_∙_}
 use borrow.Author.Needs.{needs}
 use Rattle.ticket.proofs.PlaceStages.{has-proposals, has-failures, at-header, at-proposals, at-failures, past-end}
 use Rattle.ticket.proofs.accept.accept_line.Statement.{statement}
@@ -26,20 +25,17 @@ failure-line-requires c κs = (c .before .before .before .before .pre .0, has-fa
 enum-told-2 : tie.Need-enum-told-2
 enum-told-2 c = search needs
 
-refused-requires : tie.Need-refused-requires
-refused-requires c κs = search needs
-
 returns : tie.Need-returns
-returns c = c .header-line .ensures ∙ at-header _ _ _ (c .before .enum-told .given .1)
+returns c = at-header _ _ _ _ (c .header-line .result) (c .before .enum-told .given .1) (c .header-line .ensures .0) (c .header-line .ensures .1)
 
 returns-2 : tie.Need-returns-2
-returns-2 c = c .proposal-line .ensures ∙ at-proposals _ _ _ (c .before .before .place .given .1)
+returns-2 c = at-proposals _ _ _ _ (c .proposal-line .result) (c .before .before .place .given .1) (c .proposal-line .ensures .0) (c .proposal-line .ensures .1)
 
 returns-3 : tie.Need-returns-3
-returns-3 c = c .failure-line .ensures ∙ at-failures _ _ _ (c .before .before .place2 .given .1)
+returns-3 c = at-failures _ _ _ _ (c .failure-line .result) (c .before .before .place2 .given .1) (c .failure-line .ensures .0) (c .failure-line .ensures .1)
 
 returns-4 : tie.Need-returns-4
-returns-4 c = c .refused .ensures ∙ past-end _ _ _ (c .before .enum-told2 .given .1)
+returns-4 c = (tt, past-end _ _ _ _ (c .enum-told2 .given .1))
 
 pub accept-line-spec : {M : Type 1} → statement M
 accept-line-spec =
@@ -52,7 +48,6 @@ accept-line-spec =
     enum-known-place-2
     failure-line-requires
     enum-told-2
-    refused-requires
     returns
     returns-2
     returns-3

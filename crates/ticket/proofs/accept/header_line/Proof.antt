@@ -1,27 +1,20 @@
 -- `header_line` meets its contract. Assumes nothing.
-use mathlib.Core.Path.{_∙_, sym}
+use mathlib.Core.Path.{refl, sym}
 use native.Mathlib.Omega.{arith}
 use borrow.Author.Needs.{needs}
 use Rattle.lines.proofs.Bytes.{holds-part}
-use Rattle.ticket.specs.Progress.{stageOf}
 use Rattle.ticket.proofs.LineAnswers.{header-size, header-kind, header-limits, header-next}
 use Rattle.ticket.proofs.accept.header_line.Statement.{statement}
 use Rattle.ticket.proofs.accept.header_line.Tie as tie
 
-refused-requires : tie.Need-refused-requires
-refused-requires c κs = search needs
-
 returns : tie.Need-returns
-returns c = c .refused .ensures ∙ sym (header-size _ _ _ (c .before .if1 .taken))
+returns c = (λ n. tt, λ x. sym (header-size _ _ _ (c .if1 .taken)))
 
 line-byte-requires : tie.Need-line-byte-requires
 line-byte-requires c κs = holds-part _ _ _ 0 1 (c .before .before .pre) (omega arith)
 
-refused-requires-2 : tie.Need-refused-requires-2
-refused-requires-2 c κs = search needs
-
 returns-2 : tie.Need-returns-2
-returns-2 c = c .refused2 .ensures ∙ sym (header-kind _ _ _ (omega arith) _ (c .before .before .line-byte .ensures) (c .before .if2 .taken))
+returns-2 c = (λ n. tt, λ x. sym (header-kind _ _ _ (omega arith) _ (c .before .line-byte .ensures) (c .if2 .taken)))
 
 line-byte-requires-2 : tie.Need-line-byte-requires-2
 line-byte-requires-2 c κs = holds-part _ _ _ 1 1 (c .before .before .before .before .pre) (omega arith)
@@ -32,41 +25,37 @@ line-byte-requires-3 c κs = holds-part _ _ _ 2 1 (c .before .before .before .be
 within-limits-requires : tie.Need-within-limits-requires
 within-limits-requires c κs = search needs
 
-refused-requires-3 : tie.Need-refused-requires-3
-refused-requires-3 c κs = search needs
-
 returns-3 : tie.Need-returns-3
 returns-3 c =
-    let checked = c .before .before in
+    let checked = c .before in
     let t = checked .before in
     let n = t .before in
-    let kind = n .before .before in
-    c .refused3 .ensures
-    ∙ sym (header-limits _ _ _ (omega arith) _ (kind .line-byte .ensures) (omega arith) _ _ (n .line-byte2 .ensures) (t .line-byte3 .ensures) _
-    (checked .within-limits .ensures) (c .before .if3 .taken))
+    let kind = n .before .before in (
+      λ n. tt,
+      λ x. sym (header-limits _ _ _ (omega arith) _ (kind .line-byte .ensures) (omega arith) _ _ (n .line-byte2 .ensures) (t .line-byte3 .ensures) _
+          (checked .within-limits .ensures) (c .if3 .taken)),
+    )
 
 returns-4 : tie.Need-returns-4
-unfolding stageOf
 returns-4 c =
     let checked = c .before in
     let t = checked .before in
     let n = t .before in
-    let kind = n .before .before in
-    sym (header-next _ _ _ (omega arith) _ (kind .line-byte .ensures) (omega arith) _ _ (n .line-byte2 .ensures) (t .line-byte3 .ensures) _
-    (checked .within-limits .ensures) (c .if3 .left))
+    let kind = n .before .before in (
+      λ n. refl,
+      λ x. sym (header-next _ _ _ (omega arith) _ (kind .line-byte .ensures) (omega arith) _ _ (n .line-byte2 .ensures) (t .line-byte3 .ensures) _
+          (checked .within-limits .ensures) (c .if3 .left)),
+    )
 
 pub header-line-spec : {M : Type 1} → statement M
 header-line-spec =
     tie.close
     (tie.spec
-    refused-requires
     returns
     line-byte-requires
-    refused-requires-2
     returns-2
     line-byte-requires-2
     line-byte-requires-3
     within-limits-requires
-    refused-requires-3
     returns-3
     returns-4)

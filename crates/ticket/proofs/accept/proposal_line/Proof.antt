@@ -1,35 +1,22 @@
 -- `proposal_line` meets its contract. Assumes nothing.
-use mathlib.Core.Path.{_≡_, sym, _∙_}
+use mathlib.Core.Path.{sym}
 use native.Mathlib.Omega.{arith}
-use lib.ListN.{length, take}
-use lib.Seq.{length-take-le}
 use borrow.Author.Needs.{needs}
 use Rattle.lines.proofs.Bytes.{holds-part}
 use Rattle.lines.proofs.Word.{number-small}
 use Rattle.ticket.proofs.LineAnswers.{proposal-size, proposal-kind, proposal-order, proposal-next}
+use Rattle.ticket.proofs.TableStages.{proposed}
 use Rattle.ticket.proofs.accept.proposal_line.Statement.{statement}
 use Rattle.ticket.proofs.accept.proposal_line.Tie as tie
 
-refused-requires : tie.Need-refused-requires
-refused-requires c κs = search needs
-
--- There are as many proposals as are counted.
-proposed : (c : tie.Start) → length (take (c .args .count) (c .args .table .values)) ≡ c .args .count
-proposed c =
-    let places : length (c .args .table .values) ≡ 64 = search needs in
-    length-take-le _ _ (omega arith)
-
 returns : tie.Need-returns
-returns c = c .refused .ensures ∙ sym (proposal-size _ _ _ _ _ _ (c .before .if1 .taken))
+returns c = (tt, λ x known. sym (proposal-size _ _ _ _ _ _ (c .if1 .taken)))
 
 line-byte-requires : tie.Need-line-byte-requires
 line-byte-requires c κs = holds-part _ _ _ 0 1 (c .before .before .pre .0) (omega arith)
 
-refused-requires-2 : tie.Need-refused-requires-2
-refused-requires-2 c κs = search needs
-
 returns-2 : tie.Need-returns-2
-returns-2 c = c .refused2 .ensures ∙ sym (proposal-kind _ _ _ _ _ _ (omega arith) _ (c .before .before .line-byte .ensures) (c .before .if2 .taken))
+returns-2 c = (tt, λ x known. sym (proposal-kind _ _ _ _ _ _ (omega arith) _ (c .before .line-byte .ensures) (c .if2 .taken)))
 
 line-byte-requires-2 : tie.Need-line-byte-requires-2
 line-byte-requires-2 c κs = holds-part _ _ _ 1 1 (c .before .before .before .before .pre .0) (omega arith)
@@ -37,16 +24,14 @@ line-byte-requires-2 c κs = holds-part _ _ _ 1 1 (c .before .before .before .be
 add-if3 : tie.Need-add-if3
 add-if3 c = search needs
 
-refused-requires-3 : tie.Need-refused-requires-3
-refused-requires-3 c κs = search needs
-
 returns-3 : tie.Need-returns-3
 returns-3 c =
-    let station = c .before .before in
-    let kind = station .before .before in
-    c .refused3 .ensures
-    ∙ sym (proposal-order _ _ _ _ _ _ (omega arith) _ (kind .line-byte .ensures) (omega arith) _ (station .line-byte2 .ensures) _
-    (proposed (kind .before .before .before)) (c .before .if3 .taken))
+    let station = c .before in
+    let kind = station .before .before in (
+      tt,
+      λ x known. sym (proposal-order _ _ _ _ _ _ (omega arith) _ (kind .line-byte .ensures) (omega arith) _ (station .line-byte2 .ensures) _
+          (proposed x _ _ known (omega arith) (omega arith)) (c .if3 .taken)),
+    )
 
 line-word-requires : tie.Need-line-word-requires
 line-word-requires c κs = (holds-part _ _ _ 2 4 (c .before .before .before .before .before .before .pre .0) (omega arith), omega arith)
@@ -62,23 +47,21 @@ with-value-requires c κs = search needs
 returns-4 : tie.Need-returns-4
 returns-4 c =
     let station = c .before .before .before in
-    let kind = station .before .before in
-    c .with-value .ensures
-    ∙ sym (proposal-next _ _ _ _ _ _ (omega arith) _ (kind .line-byte .ensures) (omega arith) _ (station .line-byte2 .ensures) _
-    (proposed (kind .before .before .before)) (omega arith) _ (c .before .line-word .ensures))
+    let kind = station .before .before in (
+      c .with-value .ensures .0,
+      λ x known. proposal-next _ _ _ _ _ _ (omega arith) _ (kind .line-byte .ensures) (omega arith) _ (station .line-byte2 .ensures) _
+          (proposed x _ (kind .before .before .before .args .count) known (omega arith) (omega arith)) (omega arith) _ (c .before .line-word .ensures) _ (c .with-value .ensures .1 x known),
+    )
 
 pub proposal-line-spec : {M : Type 1} → statement M
 proposal-line-spec =
     tie.close
     (tie.spec
-    refused-requires
     returns
     line-byte-requires
-    refused-requires-2
     returns-2
     line-byte-requires-2
     add-if3
-    refused-requires-3
     returns-3
     line-word-requires
     cast-with-value
