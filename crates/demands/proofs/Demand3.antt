@@ -10,7 +10,7 @@ use Rattle.demands.specs.Said.{endSaid}
 use Rattle.demands.specs.Crashes.{CountsCrashes}
 use Rattle.demands.specs.Demand3.{RoundsClaim, OutputClaim, Demand3}
 use Rattle.demands.proofs.SameEnds.{SameEnds, consensus-same, no-later-same, ends-in-order}
-use Rattle.demands.proofs.PairedTexts.{pairing-claim}
+use Rattle.demands.proofs.PairedTexts.{texts-paired}
 use Rattle.demands.proofs.Outputs.{written-accepted, ends-said, f-said}
 
 rounds-claim : RoundsClaim
@@ -19,7 +19,7 @@ rounds-claim =
     record {
       consensus = λ text x read. uniform-consensus x (accepted-well-formed text x read);
       crashes = λ text x read. ap (crashCount (x .pattern)) (sym (ends-in-order x (accepted-well-formed text x read) (endOf x) (λ p process. refl)));
-      noLater = λ a b x y read read′ paired. no-later x y (accepted-well-formed a x read) (accepted-well-formed b y read′) paired;
+      noLater = λ a b x y read read′ paired. no-later x y (accepted-well-formed a x read) (accepted-well-formed b y read′) (texts-paired a b x y read read′ paired);
     }
 
 output-claim : OutputClaim
@@ -39,4 +39,4 @@ output-claim =
     }
 
 pub demand-3 : Demand3
-demand-3 = record { rounds = rounds-claim; outputs = output-claim; pairing = pairing-claim }
+demand-3 = record { rounds = rounds-claim; outputs = output-claim }

@@ -9,3 +9,4 @@ pub mod AcceptedLine
 pub mod PairedTexts
 pub mod Demand3
 pub mod BoundClaim
+pub mod PartsClaim

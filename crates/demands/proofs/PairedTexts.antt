@@ -12,7 +12,7 @@ use Rattle.lines.specs.Line.{Line, bytes, noLine}
 use Rattle.ticket.specs.Reading.{Reading, accepted, refused, next, readFrom}
 use Rattle.ticket.specs.Accept.{Stage, header, proposals, failures, ended, isKind, acceptHeader, afterProposal, acceptProposal, failureLine, accept}
 use Rattle.ticket.specs.Ticket.{ticketLimit, atEnd, readTicket}
-use Rattle.demands.specs.PairedTexts.{CommitLine, PairedLines, noLines, sameLine, countNoLower, missingLine, PairingClaim}
+use Rattle.demands.specs.PairedTexts.{CommitLine, PairedLines, noLines, sameLine, countNoLower, missingLine, PairedTexts}
 use Rattle.demands.proofs.AcceptedLine.{refused-accepted, refuse-next, passes-if, proceeds, Taken, takenEnd, takenCrash, taken, commit-at, not-the-end, stated-fault}
 use Rattle.demands.proofs.PairedFaults.{placed-if, Alike, alike-paired, alike-both, alike-first}
 
@@ -141,8 +141,8 @@ not-too-long : (long : Bool) (reading : Reading Instance) (x : Instance) → con
 not-too-long true reading x e = absurd (refused-accepted 1 0 x e)
 not-too-long false reading x e = e
 
-pub pairing-claim : PairingClaim
-unfolding PairingClaim readTicket
-pairing-claim a b x y paired e e′ =
+pub texts-paired : (a b : List ℕ) (x y : Instance) → readTicket a ≡ accepted x → readTicket b ≡ accepted y → PairedTexts a b → Paired x y
+unfolding PairedTexts readTicket
+texts-paired a b x y e e′ paired =
     readings-paired header header 1 1 x y paired bothHeader
     (not-too-long (ltb ticketLimit (length a)) _ x e) (not-too-long (ltb ticketLimit (length b)) _ y e′)

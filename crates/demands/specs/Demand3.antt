@@ -5,20 +5,20 @@ use mathlib.Core.Path.{_≡_}
 use Prim.Native.Nat.{ℕ, suc}
 use Rattle.protocol.specs.Instance.{Instance}
 use Rattle.protocol.specs.Run.{crashesOf}
-use Rattle.protocol.specs.Consensus.{UniformConsensus, Paired, NoLater, endOf, latestOf}
+use Rattle.protocol.specs.Consensus.{UniformConsensus, NoLater, endOf, latestOf}
 use Rattle.ticket.specs.Reading.{accepted}
 use Rattle.ticket.specs.Ticket.{readTicket}
 use Rattle.running.specs.Answer.{Ran}
 use Rattle.running.specs.declared.RunAnswer.the-variants.{Written}
 use Rattle.demands.specs.Said.{endSaid, crashesSaid}
 use Rattle.demands.specs.Crashes.{CountsCrashes}
-use Rattle.demands.specs.PairedTexts.{PairingClaim}
+use Rattle.demands.specs.PairedTexts.{PairedTexts}
 
--- Of the rounds of every accepted text, and of every two that are paired.
+-- Of the rounds of every accepted text, and of every two that are paired line by line.
 pub record RoundsClaim : Type 0 where
   pub consensus : (text : List ℕ) (x : Instance) → readTicket text ≡ accepted x → UniformConsensus (latestOf x) x (endOf x)
   pub crashes : (text : List ℕ) (x : Instance) → readTicket text ≡ accepted x → CountsCrashes (crashesOf x) x (endOf x)
-  pub noLater : (a b : List ℕ) (x y : Instance) → readTicket a ≡ accepted x → readTicket b ≡ accepted y → Paired x y → NoLater x (endOf x) y (endOf y)
+  pub noLater : (a b : List ℕ) (x y : Instance) → readTicket a ≡ accepted x → readTicket b ≡ accepted y → PairedTexts a b → NoLater x (endOf x) y (endOf y)
 
 -- Running an accepted text has written a result into a buffer, which holds `out` afterwards.
 pub record Wrote (text : List ℕ) (x : Instance) (out : List ℕ) : Type 0 where
@@ -32,10 +32,9 @@ pub record OutputClaim : Type 0 where
   pub accepts : (text before out : List ℕ) (size : ℕ) → Ran text before out (Written size) → (x : Instance) × (readTicket text ≡ accepted x)
   pub consensus : (text : List ℕ) (x : Instance) (out : List ℕ) → Wrote text x out → UniformConsensus (suc (crashesSaid out (x .processes))) x (endSaid out)
   pub crashes : (text : List ℕ) (x : Instance) (out : List ℕ) → Wrote text x out → CountsCrashes (crashesSaid out (x .processes)) x (endSaid out)
-  pub noLater : (a b : List ℕ) (x y : Instance) (out out′ : List ℕ) → Wrote a x out → Wrote b y out′ → Paired x y → NoLater x (endSaid out) y (endSaid out′)
+  pub noLater : (a b : List ℕ) (x y : Instance) (out out′ : List ℕ) → Wrote a x out → Wrote b y out′ → PairedTexts a b → NoLater x (endSaid out) y (endSaid out′)
 
--- Demand 3: both claims, and that texts paired line by line, as document 01 pairs them, are paired in them.
+-- Demand 3: both claims.
 pub record Demand3 : Type 0 where
   pub rounds : RoundsClaim
   pub outputs : OutputClaim
-  pub pairing : PairingClaim

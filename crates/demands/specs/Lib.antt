@@ -3,3 +3,4 @@ pub mod Crashes
 pub mod PairedTexts
 pub mod Demand3
 pub mod BoundClaim
+pub mod PartsClaim

@@ -4,11 +4,7 @@ use mathlib.Core.List.{List, [], _∷_}
 use mathlib.Core.Path.{_≡_}
 use Prim.Native.Nat.{ℕ, _≤_}
 use lib.ListN.{getD}
-use Rattle.protocol.specs.Instance.{Instance}
-use Rattle.protocol.specs.Consensus.{Paired}
 use Rattle.lines.specs.Line.{Line, bytes, linesOf}
-use Rattle.ticket.specs.Reading.{accepted}
-use Rattle.ticket.specs.Ticket.{readTicket}
 
 -- A failure line of the commit step: 03, station, round, 02, set (8 bytes), count.
 pub record CommitLine (b : List ℕ) : Type 0 where
@@ -22,6 +18,6 @@ pub data PairedLines : List Line → List Line → Type 0 where
       → PairedLines l m → PairedLines (bytes b ∷ l) (bytes c ∷ m)
   missingLine : {b : List ℕ} {l m : List Line} → CommitLine b → PairedLines l m → PairedLines (bytes b ∷ l) m
 
--- The instances of two accepted texts that are paired so are paired.
-unfoldable pub PairingClaim : Type 0
-PairingClaim = (a b : List ℕ) (x y : Instance) → PairedLines (linesOf a) (linesOf b) → readTicket a ≡ accepted x → readTicket b ≡ accepted y → Paired x y
+-- Two texts are paired if their lines are.
+unfoldable pub PairedTexts : List ℕ → List ℕ → Type 0
+PairedTexts a b = PairedLines (linesOf a) (linesOf b)

@@ -9,3 +9,4 @@ pub mod TableStages
 pub mod CrashTable
 pub mod PlaceStages
 pub mod Reached
+pub mod RefusalRange

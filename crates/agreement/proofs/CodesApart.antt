@@ -1,0 +1,124 @@
+-- A C caller can tell answers apart by their numbers (`codes-apart`). Assumes nothing.
+use mathlib.Core.List.{List}
+use mathlib.Core.Path.{_≡_, refl, sym, subst}
+use mathlib.Core.Bool.{Bool, true, false, cond}
+use Prim.Native.Nat.{ℕ, suc, _*_, _/_, _%_, _≤_, _<_}
+use native.Mathlib.Omega.{arith}
+use borrow.Author.Tests.{leb-true}
+use lib.Dec.{ltb}
+use lib.ListN.{length}
+use Rattle.protocol.specs.Instance.{Instance}
+use Rattle.protocol.specs.Run.{runOf, crashesOf}
+use Rattle.protocol.specs.Settling.{qualifies}
+use Rattle.protocol.proofs.Counts.{counts-fit}
+use Rattle.protocol.proofs.Ends.{states-at-end}
+use Rattle.ticket.specs.Reading.{Reading, accepted, refused}
+use Rattle.ticket.specs.Ticket.{readTicket}
+use Rattle.ticket.proofs.CrashAllowed.{both}
+use Rattle.ticket.proofs.WellFormed.{accepted-well-formed}
+use Rattle.ticket.proofs.RefusalRange.{RefusedBy, lastRefused, ticket-refused}
+use Rattle.result.specs.ResultLine.{resultText, resultSize}
+use Rattle.result.proofs.ResultLine.{length-result}
+use Rattle.running.specs.Running.{resultIn, running}
+use Rattle.running.specs.Settle.{Settles}
+use Rattle.agreement.specs.Code.{refusalCode, runCode, settleCode, SettlesAs}
+use Rattle.agreement.specs.CodesApart.{refusalsFrom, TellsRefusal, TellsSize, TellsRound, TellsRun, TellsSettling, CodesApart}
+
+refusal-told : (most number line : ℕ) → 1 ≤ number → number ≤ most → line < refusalsFrom → TellsRefusal most number line (refusalCode number line)
+refusal-told most number line some few short =
+    record { isRefusal = omega arith; readsNumber = omega arith; readsLine = omega arith; first = some; last = few }
+
+-- The size of a result.
+result-length : (text : List ℕ) (x : Instance) → readTicket text ≡ accepted x → length (resultText x) ≡ 17 * suc (x .processes)
+unfolding resultText resultSize
+result-length text x e = length-result (runOf x) (crashesOf x) (x .processes) (states-at-end x (accepted-well-formed text x e))
+
+module _ (text : List ℕ) (room : ℕ) where
+  result-told : (x : Instance) → readTicket text ≡ accepted x → running text room ≡ accepted (resultText x) → TellsSize text room (length (resultText x))
+  result-told x e ran =
+      let formed = accepted-well-formed text x e in
+      let size = result-length text x e in
+      record { instance = x; read = e; ran = ran; size = size; least = omega (arith, size, formed .some-process); most = omega (arith, size, formed .at-most-64) }
+
+  accepted-told : (x : Instance) (short : Bool) → readTicket text ≡ accepted x → ltb room (resultSize (x .processes)) ≡ short
+      → TellsRun text room (cond short (refused 9 0) (accepted (resultText x))) (runCode (cond short (refused 9 0) (accepted (resultText x))))
+  unfolding TellsRun runCode running resultIn
+  accepted-told x true e h = refusal-told _ 9 0 (omega arith) (omega arith) (omega arith)
+  accepted-told x false e h = result-told x e (rw (e, h) refl)
+
+  reading-told : (reading : Reading Instance) → readTicket text ≡ reading → RefusedBy lastRefused reading → TellsRun text room (resultIn room reading) (runCode (resultIn room reading))
+  unfolding TellsRun runCode resultIn RefusedBy
+  reading-told (accepted x) e h = accepted-told x (ltb room (resultSize (x .processes))) e refl
+  reading-told (refused number line) e h = refusal-told _ number line (h .0) (omega (arith, h .1)) (omega (arith, h .2))
+
+  run-told : TellsRun text room (running text room) (runCode (running text room))
+  unfolding running
+  run-told = reading-told (readTicket text) refl (ticket-refused text)
+
+  size-read : (answer : Reading (List ℕ)) (code : ℕ) → TellsRun text room answer code → code < refusalsFrom → TellsSize text room code
+  unfolding TellsRun
+  size-read (accepted result) code told small = told
+  size-read (refused number line) code told small = absurd (omega (arith, told .isRefusal))
+
+  refusal-read : (answer : Reading (List ℕ)) (code : ℕ) → TellsRun text room answer code → refusalsFrom ≤ code → answer ≡ refused (code / refusalsFrom) (code % refusalsFrom)
+  unfolding TellsRun
+  refusal-read (accepted result) code told large = absurd (omega (arith, told .most))
+  refusal-read (refused number line) code told large = rw (told .readsNumber, told .readsLine) refl
+
+-- A settling round is one of the run's, of which there are at most 64.
+round-told : (text : List ℕ) (x : Instance) (r : ℕ) → readTicket text ≡ accepted x → qualifies x r ≡ true → TellsRound text r r
+unfolding qualifies
+round-told text x r e settles =
+    let rounds = both _ _ (both _ _ settles .0) in
+    let within : r ≤ runOf x .rounds = leb-true _ _ (rounds .1) in
+    let fit = counts-fit x (accepted-well-formed text x e) in
+    record {
+      instance = x;
+      read = e;
+      settles = settles;
+      round = refl;
+      least = leb-true _ _ (rounds .0);
+      most = omega (arith, fit .rounds);
+    }
+
+module _ (text : List ℕ) where
+  answer-told : (reading : Reading Instance) (answer : Reading ℕ) → readTicket text ≡ reading → RefusedBy lastRefused reading → Settles reading answer
+      → TellsSettling text answer (settleCode answer)
+  unfolding TellsSettling settleCode Settles RefusedBy
+  answer-told (accepted x) (accepted r) e h s = round-told text x r e s
+  answer-told (accepted x) (refused number line) e h s = absurd s
+  answer-told (refused number line) answer e h s =
+      subst (λ (a : Reading ℕ). TellsSettling text a (settleCode a)) (sym s) (refusal-told _ number line (h .0) (h .1) (omega (arith, h .2)))
+
+  settling-told : (code : ℕ) (s : SettlesAs text code) → TellsSettling text (s .answer) code
+  settling-told code s = rw (s .coded) (answer-told (readTicket text) (s .answer) refl (ticket-refused text) (s .settles))
+
+  round-read : (answer : Reading ℕ) (code : ℕ) → TellsSettling text answer code → code < refusalsFrom → TellsRound text code code
+  unfolding TellsSettling
+  round-read (accepted r) code told small = subst (λ (i : ℕ). TellsRound text i code) (sym (told .round)) told
+  round-read (refused number line) code told small = absurd (omega (arith, told .isRefusal))
+
+  same-refusal : (reading : Reading Instance) (number line : ℕ) → Settles reading (refused number line) → reading ≡ refused number line
+  unfolding Settles
+  same-refusal (accepted x) number line s = absurd s
+  same-refusal (refused number′ line′) number line s =
+      let same : number′ ≡ number = cc in
+      let place : line′ ≡ line = cc in
+      rw (same, place) refl
+
+  unsettled-read : (answer : Reading ℕ) (code : ℕ) → Settles (readTicket text) answer → TellsSettling text answer code → refusalsFrom ≤ code
+      → readTicket text ≡ refused (code / refusalsFrom) (code % refusalsFrom)
+  unfolding TellsSettling
+  unsettled-read (accepted r) code s told large = absurd (omega (arith, told .most))
+  unsettled-read (refused number line) code s told large = rw (told .readsNumber, told .readsLine) (same-refusal (readTicket text) number line s)
+
+pub codes-apart : CodesApart
+codes-apart =
+    record {
+      run = run-told;
+      runAccepted = λ text room code e small. size-read text room (running text room) code (rw e (run-told text room)) small;
+      runRefused = λ text room code e large. refusal-read text room (running text room) code (rw e (run-told text room)) large;
+      settling = settling-told;
+      settlingAccepted = λ text code s small. round-read text (s .answer) code (settling-told text code s) small;
+      settlingRefused = λ text code s large. unsettled-read text (s .answer) code (s .settles) (settling-told text code s) large;
+    }

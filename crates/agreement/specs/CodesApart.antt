@@ -1,0 +1,62 @@
+-- What a C caller reads off the number that `uc_run` or `uc_settle` answers (include/agreement.h; docs/DECISIONS.md, S5): answers can be told apart.
+use mathlib.Core.List.{List}
+use mathlib.Core.Path.{_≡_}
+use mathlib.Core.Bool.{true}
+use Prim.Native.Nat.{ℕ, suc, _*_, _/_, _%_, _≤_, _<_}
+use Rattle.protocol.specs.Instance.{Instance}
+use Rattle.protocol.specs.Settling.{qualifies}
+use Rattle.ticket.specs.Reading.{Reading, accepted, refused}
+use Rattle.ticket.specs.Ticket.{readTicket}
+use Rattle.result.specs.ResultLine.{resultText}
+use Rattle.running.specs.Running.{running}
+use Rattle.agreement.specs.Code.{runCode, SettlesAs}
+
+-- From here on a code is a refusal's.
+abbrev pub refusalsFrom : ℕ
+refusalsFrom = 65536
+
+-- The code of a refusal: its number, from 1 to `most`, and its line are read off by division.
+pub record TellsRefusal (most number line code : ℕ) : Type 0 where
+  pub isRefusal : refusalsFrom ≤ code
+  pub readsNumber : code / refusalsFrom ≡ number
+  pub readsLine : code % refusalsFrom ≡ line
+  pub first : 1 ≤ number
+  pub last : number ≤ most
+
+-- The code of a result: its bytes, 17(n + 1), of the ticket's n.
+pub record TellsSize (text : List ℕ) (room code : ℕ) : Type 0 where
+  pub instance : Instance
+  pub read : readTicket text ≡ accepted instance
+  pub ran : running text room ≡ accepted (resultText instance)
+  pub size : code ≡ 17 * suc (instance .processes)
+  pub least : 34 ≤ code
+  pub most : code ≤ 1105
+
+-- The code of a settling round of the ticket.
+pub record TellsRound (text : List ℕ) (r code : ℕ) : Type 0 where
+  pub instance : Instance
+  pub read : readTicket text ≡ accepted instance
+  pub settles : qualifies instance r ≡ true
+  pub round : code ≡ r
+  pub least : 1 ≤ code
+  pub most : code ≤ 64
+
+-- The code of an answer of running, and of settling.
+unfoldable pub TellsRun : List ℕ → ℕ → Reading (List ℕ) → ℕ → Type 0
+TellsRun text room (accepted result) code = TellsSize text room code
+TellsRun text room (refused number line) code = TellsRefusal 9 number line code
+
+unfoldable pub TellsSettling : List ℕ → Reading ℕ → ℕ → Type 0
+TellsSettling text (accepted r) code = TellsRound text r code
+TellsSettling text (refused number line) code = TellsRefusal 8 number line code
+
+-- Every answer's code tells it; and a code is at least 65536 just if the answer is the refusal that is read off it.
+pub record CodesApart : Type 0 where
+  pub run : (text : List ℕ) (room : ℕ) → TellsRun text room (running text room) (runCode (running text room))
+  pub runAccepted : (text : List ℕ) (room code : ℕ) → code ≡ runCode (running text room) → code < refusalsFrom → TellsSize text room code
+  pub runRefused : (text : List ℕ) (room code : ℕ) → code ≡ runCode (running text room) → refusalsFrom ≤ code
+      → running text room ≡ refused (code / refusalsFrom) (code % refusalsFrom)
+  pub settling : (text : List ℕ) (code : ℕ) (s : SettlesAs text code) → TellsSettling text (s .answer) code
+  pub settlingAccepted : (text : List ℕ) (code : ℕ) → SettlesAs text code → code < refusalsFrom → TellsRound text code code
+  pub settlingRefused : (text : List ℕ) (code : ℕ) → SettlesAs text code → refusalsFrom ≤ code
+      → readTicket text ≡ refused (code / refusalsFrom) (code % refusalsFrom)

@@ -1,0 +1,21 @@
+-- Demand 2, second half, and demand 3 of separate process parts, closed over texts (document 00, demands 2 and 3; document 01, 'A round', last paragraph, and 'The desk part').
+use mathlib.Core.List.{List}
+use mathlib.Core.Path.{_≡_}
+use Prim.Native.Nat.{ℕ}
+use Rattle.protocol.specs.Instance.{Instance}
+use Rattle.protocol.specs.Consensus.{UniformConsensus, NoLater}
+use Rattle.ticket.specs.Reading.{accepted}
+use Rattle.ticket.specs.Ticket.{readTicket}
+use Rattle.parts.specs.DecideAlike.{DecideAlike, NoneRefused}
+use Rattle.parts.specs.PartEnds.{endIn, latestIn}
+use Rattle.demands.specs.PairedTexts.{PairedTexts}
+
+-- Of the parts of every accepted text, and of every two texts that are paired line by line.
+pub record PartsClaim : Type 0 where
+  -- they decide and crash as the processes of the run
+  pub decideAlike : (text : List ℕ) (x : Instance) → readTicket text ≡ accepted x → DecideAlike x
+  -- none of their calls is refused while they are open
+  pub noneRefused : (text : List ℕ) (x : Instance) → readTicket text ≡ accepted x → NoneRefused x
+  -- demand 3, by their own bytes
+  pub consensus : (text : List ℕ) (x : Instance) → readTicket text ≡ accepted x → UniformConsensus (latestIn x) x (endIn x)
+  pub noLater : (a b : List ℕ) (x y : Instance) → readTicket a ≡ accepted x → readTicket b ≡ accepted y → PairedTexts a b → NoLater x (endIn x) y (endIn y)
