@@ -11,7 +11,7 @@ use Rattle.general.specs.Text.{ascii}
 use Rattle.protocol.specs.Instance.{pointFrom, faultOf, withinLimits}
 use Rattle.protocol.specs.Message.{arriving}
 use Rattle.protocol.specs.Transition.{sends, receives}
-use Rattle.protocol.specs.Delivery.{reachAt, reachIn, reach}
+use Rattle.protocol.specs.Delivery.{amongFirst, reachAt, reachIn, reach}
 use Rattle.protocol.specs.Round.{stateOf, crashesIn, sentBy, received, afterOutcome, after, statesAfter}
 use Rattle.protocol.specs.Count.{isUndecided, anyUndecided, dataAt, commitsAt, countIn, speaks, dataIn, commitsIn, isIdle, countsAsCrash, crashCount}
 use Rattle.protocol.specs.Run.{initial, withRound, runTo, runOf, crashesOf}
@@ -34,5 +34,5 @@ unfoldable pub says : Case → List ℕ
 says c = textOf (c .output)
 
 pub marked-cases : map writes cases ≡ map says cases
-unfolding writes says cases textOf ascii case1 case2 case3 case4 case5 case6 case7 case8 case9 case10 case10Passes case11 case12 onesIn member ones64 number numberFrom bytesOf mapFrom pointFrom faultOf withinLimits arriving sends receives reachAt reachIn reach stateOf crashesIn sentBy received afterOutcome after statesAfter isUndecided anyUndecided dataAt commitsAt countIn speaks dataIn commitsIn isIdle countsAsCrash crashCount initial withRound runTo runOf crashesOf digitValue isDigit scan closed unclosed linesFrom linesOf proceed readFrom isKind acceptHeader afterProposal acceptProposal failureLine placesCrash allBetween suitsStep withCrash acceptCrash acceptFailure accept atEnd readTicket digitOf hexDigits hexLine endBytes processLine lastLine joined resultLines resultText resultSize refusalLine resultIn running written programWrites
+unfolding writes says cases textOf ascii case1 case2 case3 case4 case5 case6 case7 case8 case9 case10 case10Passes case11 case12 onesIn member ones64 number numberFrom bytesOf mapFrom pointFrom faultOf withinLimits arriving sends receives amongFirst reachAt reachIn reach stateOf crashesIn sentBy received afterOutcome after statesAfter isUndecided anyUndecided dataAt commitsAt countIn speaks dataIn commitsIn isIdle countsAsCrash crashCount initial withRound runTo runOf crashesOf digitValue isDigit scan closed unclosed linesFrom linesOf proceed readFrom isKind acceptHeader afterProposal acceptProposal failureLine placesCrash allBetween suitsStep withCrash acceptCrash acceptFailure accept atEnd readTicket digitOf hexDigits hexLine endBytes processLine lastLine joined resultLines resultText resultSize refusalLine resultIn running written programWrites
 marked-cases = refl

@@ -15,7 +15,7 @@ use Rattle.general.specs.Text.{ascii}
 use Rattle.protocol.specs.Instance.{Instance, pointFrom, faultOf, withinLimits}
 use Rattle.protocol.specs.Message.{arriving}
 use Rattle.protocol.specs.Transition.{sends, receives}
-use Rattle.protocol.specs.Delivery.{reachAt, reachIn, reach}
+use Rattle.protocol.specs.Delivery.{amongFirst, reachAt, reachIn, reach}
 use Rattle.protocol.specs.Round.{stateOf, crashesIn, sentBy, received, afterOutcome, after, statesAfter}
 use Rattle.protocol.specs.Count.{isUndecided, anyUndecided, dataAt, commitsAt, countIn, speaks, dataIn, commitsIn, isIdle, countsAsCrash, crashCount}
 use Rattle.protocol.specs.Run.{initial, withRound, runTo, runOf, crashesOf}
@@ -34,7 +34,7 @@ qualifiesIn (refused refusal line) r = false
 
 -- Case 1: rounds 1 and 2 qualify, and no other.
 pub case-1-settles : (r : ℕ) → qualifiesIn (readTicket (textOf (case1 .ticket))) r ≡ (leb 1 r && leb r 2)
-unfolding qualifiesIn textOf ascii case1 onesIn member ones64 number numberFrom mapFrom pointFrom faultOf withinLimits arriving sends receives reachAt reachIn reach stateOf crashesIn sentBy received afterOutcome after statesAfter isUndecided anyUndecided dataAt commitsAt countIn speaks dataIn commitsIn isIdle countsAsCrash crashCount initial withRound runTo runOf crashesOf valuesHeld allAre oneValue qualifies digitValue isDigit scan closed unclosed linesFrom linesOf proceed readFrom isKind acceptHeader afterProposal acceptProposal failureLine placesCrash allBetween suitsStep withCrash acceptCrash acceptFailure accept atEnd readTicket
+unfolding qualifiesIn textOf ascii case1 onesIn member ones64 number numberFrom mapFrom pointFrom faultOf withinLimits arriving sends receives amongFirst reachAt reachIn reach stateOf crashesIn sentBy received afterOutcome after statesAfter isUndecided anyUndecided dataAt commitsAt countIn speaks dataIn commitsIn isIdle countsAsCrash crashCount initial withRound runTo runOf crashesOf valuesHeld allAre oneValue qualifies digitValue isDigit scan closed unclosed linesFrom linesOf proceed readFrom isKind acceptHeader afterProposal acceptProposal failureLine placesCrash allBetween suitsStep withCrash acceptCrash acceptFailure accept atEnd readTicket
 case-1-settles zero = refl
 case-1-settles (suc zero) = refl
 case-1-settles (suc (suc zero)) = refl
@@ -61,5 +61,5 @@ boundsOf (refused refusal line) = []
 
 -- Case 9: 10 processes, 9 crashes, 7 speakers; 63 messages, which is the bound; document 001 gives 55.
 pub case-9-meets-bound : boundsOf (readTicket (textOf (case9 .ticket))) ≡ 10 ∷ 9 ∷ 7 ∷ 63 ∷ 63 ∷ (2 * 55) ∷ []
-unfolding boundsOf textOf ascii case9 onesIn member ones64 number numberFrom mapFrom pointFrom faultOf withinLimits arriving sends receives reachAt reachIn reach stateOf crashesIn sentBy received afterOutcome after statesAfter isUndecided anyUndecided dataAt commitsAt countIn speaks dataIn commitsIn isIdle countsAsCrash crashCount initial withRound runTo runOf crashesOf digitValue isDigit scan closed unclosed linesFrom linesOf proceed readFrom isKind acceptHeader afterProposal acceptProposal failureLine placesCrash allBetween suitsStep withCrash acceptCrash acceptFailure accept atEnd readTicket
+unfolding boundsOf textOf ascii case9 onesIn member ones64 number numberFrom mapFrom pointFrom faultOf withinLimits arriving sends receives amongFirst reachAt reachIn reach stateOf crashesIn sentBy received afterOutcome after statesAfter isUndecided anyUndecided dataAt commitsAt countIn speaks dataIn commitsIn isIdle countsAsCrash crashCount initial withRound runTo runOf crashesOf digitValue isDigit scan closed unclosed linesFrom linesOf proceed readFrom isKind acceptHeader afterProposal acceptProposal failureLine placesCrash allBetween suitsStep withCrash acceptCrash acceptFailure accept atEnd readTicket
 case-9-meets-bound = refl

@@ -5,7 +5,7 @@ use Rattle.general.specs.BigEndian.{number, numberFrom, bytesOf}
 use Rattle.general.specs.Indexed.{mapFrom}
 use Rattle.protocol.specs.Instance.{Instance, correct, crashes, duringCommits, withinLimits, faultOf}
 use Rattle.protocol.specs.Transition.{sends, receives}
-use Rattle.protocol.specs.Delivery.{reachAt, reachIn, reach}
+use Rattle.protocol.specs.Delivery.{amongFirst, reachAt, reachIn, reach}
 use Rattle.protocol.specs.Round.{crashesIn}
 use Rattle.process.specs.PartState.{stateBytes, stateFrom, identityValid, roundValid, fieldsValid, stateValid, stateRefusal, isOwnRound}
 use Rattle.process.specs.Frame.{dataFrame, commitFrame, framesOf, isDataFrame, isCommitFrame, messagesFrom}
@@ -33,5 +33,5 @@ pub case1-parts : partsOf case1
     ∷ up (3 ∷ 4 ∷ 2 ∷ 2 ∷ 1 ∷ 0 ∷ 0 ∷ 0 ∷ 10 ∷ [])
     ∷ up (4 ∷ 4 ∷ 2 ∷ 1 ∷ 1 ∷ 0 ∷ 0 ∷ 0 ∷ 10 ∷ [])
     ∷ []
-unfolding case1 number numberFrom bytesOf mapFrom withinLimits faultOf sends receives reachAt reachIn reach crashesIn stateBytes stateFrom identityValid roundValid fieldsValid stateValid stateRefusal isOwnRound dataFrame commitFrame framesOf isDataFrame isCommitFrame messagesFrom startRefusal startState startBytes spokenBy speakRefusal speakYields heardBy stateAfter closedOn closeOnHeard closeState isOpen outputRoom yielded bytesReaching letThrough heardFrom heard blank startedParts partAfter partsAfter partsTo partsOf
+unfolding case1 number numberFrom bytesOf mapFrom withinLimits faultOf sends receives amongFirst reachAt reachIn reach crashesIn stateBytes stateFrom identityValid roundValid fieldsValid stateValid stateRefusal isOwnRound dataFrame commitFrame framesOf isDataFrame isCommitFrame messagesFrom startRefusal startState startBytes spokenBy speakRefusal speakYields heardBy stateAfter closedOn closeOnHeard closeState isOpen outputRoom yielded bytesReaching letThrough heardFrom heard blank startedParts partAfter partsAfter partsTo partsOf
 case1-parts = refl

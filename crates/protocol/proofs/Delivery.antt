@@ -1,17 +1,16 @@
 -- How far a coordinator's messages get, by its fault: to everyone if it does not crash in the round; the commits to all processes above one that they reach;
 -- and either no commit leaves, or all data do. Assumes nothing.
 use mathlib.Core.Logic.{_⊎_, inl, inr}
-use mathlib.Core.Path.{_≡_, refl, sym, _∙_}
+use mathlib.Core.Path.{_≡_, refl, sym}
 use mathlib.Core.Bool.{Bool, true, false, cond}
-use Prim.Native.Nat.{ℕ, _+_, _≤_, _<_}
+use Prim.Native.Nat.{ℕ, _≤_}
 use native.Mathlib.Omega.{arith}
-use native.Mathlib.Decide.{decLt}
 use lib.Dec.{eqb}
-use borrow.Author.Tests.{lt-ltb, le-ltb}
+use borrow.Author.Tests.{lt-ltb, ltb-true}
 use Rattle.general.specs.Bits.{member}
 use Rattle.protocol.specs.Message.{none, dataOnly, all}
 use Rattle.protocol.specs.Instance.{Fault, correct, crashes, CrashPoint, beforeSending, duringData, duringCommits}
-use Rattle.protocol.specs.Delivery.{reachAt, reachIn}
+use Rattle.protocol.specs.Delivery.{amongFirst, reachAt, reachIn}
 use Rattle.protocol.specs.Round.{crashesIn}
 
 -- Messages reach every process, if their sender does not crash in the round.
@@ -28,31 +27,19 @@ no-commit-with-data : (b : Bool) → cond b dataOnly none ≡ all → ⊥
 no-commit-with-data true e = let z : _≡_ {A = ℕ} 0 1 = cc in omega arith
 no-commit-with-data false e = none-all e
 
-module _ (n sent p : ℕ) where
-  -- Commits go to n, n - 1 and so on downward: the first `sent` of them reach p if n < p + sent.
-  commit-leaves : n < p + sent → reachAt n (duringCommits sent) p ≡ all
-  unfolding reachAt
-  commit-leaves h = rw lt-ltb
+-- While commits are sent, all data have left.
+data-with-commits : (b : Bool) → cond b all dataOnly ≡ none → ⊥
+data-with-commits true e = none-all (sym e)
+data-with-commits false e = let z : _≡_ {A = ℕ} 0 1 = cc in omega arith
 
-  -- All data leave before the first commit.
-  data-leave : p + sent ≤ n → reachAt n (duringCommits sent) p ≡ dataOnly
-  unfolding reachAt
-  data-leave h = rw le-ltb
+-- The first commits go to whoever stands highest.
+among-upward : (n sent p q : ℕ) → p ≤ q → amongFirst n sent p ≡ true → amongFirst n sent q ≡ true
+unfolding amongFirst
+among-upward n sent p q h e = omega (arith, ltb-true, lt-ltb)
 
-  all-data-with-commits : reachAt n (duringCommits sent) p ≡ none → ⊥
-  all-data-with-commits e = by-order (decLt n (p + sent))
-    where
-      by-order : Dec (n < p + sent) → ⊥
-      by-order (yes h) = none-all (sym e ∙ commit-leaves h)
-      by-order (no h) = let left : reachAt n (duringCommits sent) p ≡ dataOnly = data-leave (omega arith) in let z : _≡_ {A = ℕ} 0 1 = cc in omega arith
-
-  -- A commit that is sent to p is sent to every process above p.
-  commit-above : (q : ℕ) → p ≤ q → reachAt n (duringCommits sent) p ≡ all → n < q + sent
-  commit-above q h e = by-order (decLt n (p + sent))
-    where
-      by-order : Dec (n < p + sent) → n < q + sent
-      by-order (yes g) = omega arith
-      by-order (no g) = let left : reachAt n (duringCommits sent) p ≡ dataOnly = data-leave (omega arith) in let z : _≡_ {A = ℕ} 0 1 = cc in omega arith
+commit-among : (b : Bool) → cond b all dataOnly ≡ all → b ≡ true
+commit-among true e = refl
+commit-among false e = cc
 
 -- No commit of the round leaves.
 unfoldable pub NoCommit : ℕ → Fault → ℕ → Type 0
@@ -72,14 +59,14 @@ no-commit-or-all-data n (crashes round point) r = by-round (eqb round r) point
         → ((p : ℕ) → cond b (reachAt n point p) all ≡ all → ⊥) ⊎ ((p : ℕ) → cond b (reachAt n point p) all ≡ none → ⊥)
     by-round true beforeSending = inl (λ p e. none-all e)
     by-round true (duringData reached) = inl (λ p e. no-commit-with-data (member p reached) e)
-    by-round true (duringCommits sent) = inr (λ p e. all-data-with-commits n sent p e)
+    by-round true (duringCommits sent) = inr (λ p e. data-with-commits (amongFirst n sent p) e)
     by-round false point = inr (λ p e. none-all (sym e))
 
 commits-upward : (n : ℕ) (point : CrashPoint) (p q : ℕ) → p ≤ q → reachAt n point p ≡ all → reachAt n point q ≡ all
 unfolding reachAt
 commits-upward n beforeSending p q h e = cc
 commits-upward n (duringData reached) p q h e = absurd (no-commit-with-data (member p reached) e)
-commits-upward n (duringCommits sent) p q h e = commit-leaves n sent q (commit-above n sent p q h e)
+commits-upward n (duringCommits sent) p q h e = rw (among-upward n sent p q h (commit-among (amongFirst n sent p) e))
 
 -- Whoever stands above a process that a commit reaches is reached by one too.
 pub reach-upward : (n : ℕ) (fault : Fault) (r p q : ℕ) → p ≤ q → reachIn n fault r p ≡ all → reachIn n fault r q ≡ all

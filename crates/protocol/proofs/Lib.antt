@@ -14,9 +14,9 @@ pub mod CrashCount
 pub mod Termination
 pub mod Validity
 pub mod Consensus
-pub mod Settled
-pub mod Speakers
-pub mod Bound
 pub mod PairRelation
 pub mod PairRound
 pub mod Pair
+pub mod Settled
+pub mod Speakers
+pub mod Bound

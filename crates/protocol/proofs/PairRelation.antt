@@ -8,7 +8,7 @@ use lib.Dec.{eqb, ltb}
 use borrow.Author.Tests.{eqb-true, ltb-true, ltb-false}
 use Rattle.protocol.specs.Message.{Reach, none, dataOnly, all}
 use Rattle.protocol.specs.Instance.{Fault, crashes, duringCommits}
-use Rattle.protocol.specs.Delivery.{reachAt, reachIn, reach}
+use Rattle.protocol.specs.Delivery.{amongFirst, reachAt, reachIn, reach}
 use Rattle.protocol.specs.Round.{State, undecided, decided, crashed, crashesIn}
 use Rattle.protocol.specs.WellFormed.{PointAllowed, FaultAllowed}
 use Rattle.protocol.specs.Consensus.{LinePaired, same, moreCommits, missing}
@@ -34,11 +34,12 @@ pub data CrashRelated (r p : ℕ) : Bool → Bool → Type 0 where
   crashInFirst : p ≡ r → CrashRelated r p true false
 
 -- More commits reach all whom fewer reach.
-commits-related : (n p sent sent′ : ℕ) → sent ≤ sent′ → (b b′ : Bool) → ltb n (p + sent) ≡ b → ltb n (p + sent′) ≡ b′
+commits-related : (n p sent sent′ : ℕ) → sent ≤ sent′ → (b b′ : Bool) → amongFirst n sent p ≡ b → amongFirst n sent′ p ≡ b′
     → ReachRelated (cond b all dataOnly) (cond b′ all dataOnly)
+unfolding amongFirst
 commits-related n p sent sent′ more true true e e′ = reachAlike
 commits-related n p sent sent′ more true false e e′ =
-    absurd (let z : ⊥ = omega (arith, ltb-true n (p + sent) e, ltb-false n (p + sent′) e′) in z)
+    absurd (let z : ⊥ = omega (arith, ltb-true, ltb-false) in z)
 commits-related n p sent sent′ more false true e e′ = commitToo
 commits-related n p sent sent′ more false false e e′ = reachAlike
 
@@ -57,9 +58,9 @@ pub reach-related : (n r p : ℕ) {fault fault′ : Fault} → LinePaired fault 
 unfolding reach reachIn reachAt
 reach-related n r p same = reachAlike
 reach-related n r p (moreCommits {round} {sent} {sent′} more) =
-    let commits = commits-related n p sent sent′ more (ltb n (p + sent)) (ltb n (p + sent′)) refl refl in
+    let commits = commits-related n p sent sent′ more (amongFirst n sent p) (amongFirst n sent′ p) refl refl in
     under-test (ltb r p) none (under-test (eqb round r) all commits)
-reach-related n r p (missing {round} {sent}) = under-test (ltb r p) none (all-related (eqb round r) (ltb n (p + sent)))
+reach-related n r p (missing {round} {sent}) = under-test (ltb r p) none (all-related (eqb round r) (amongFirst n sent p))
 
 -- A process crashes while sending commits in its own round.
 commits-in-own-round : (n t p round sent : ℕ) → FaultAllowed n t p (crashes round (duringCommits sent)) → round ≡ p

@@ -9,7 +9,7 @@ use lib.Dec.{eqb, ltb}
 use lib.ListN.{length}
 use Rattle.protocol.specs.Message.{all, dataOnly}
 use Rattle.protocol.specs.Instance.{Instance, Fault, correct, crashes, CrashPoint, beforeSending, duringData, duringCommits, faultOf}
-use Rattle.protocol.specs.Delivery.{reachAt, reachIn}
+use Rattle.protocol.specs.Delivery.{amongFirst, reachAt, reachIn}
 use Rattle.protocol.specs.Round.{undecided}
 use Rattle.protocol.specs.Count.{isUndecided, speaks, commitsAt, countIn, dataIn, commitsIn}
 use Rattle.protocol.specs.Run.{Run, withRound, runTo}
@@ -40,10 +40,10 @@ module _ (x : Instance) (r : ℕ) (run : Run) where
 
 -- Commits that leave and do not reach process p are for processes above it.
 commits-above : (n p whole : ℕ) (point : CrashPoint) → p ≤ n → (reachAt n point p ≡ all → ⊥) → commitsAt whole point + p ≤ n
-unfolding reachAt commitsAt
+unfolding reachAt amongFirst commitsAt
 commits-above n p whole beforeSending h miss = omega arith
 commits-above n p whole (duringData reached) h miss = omega arith
-commits-above n p whole (duringCommits sent) h miss = omega (arith, ltb-false n (p + sent) (by-test (ltb n (p + sent)) miss))
+commits-above n p whole (duringCommits sent) h miss = omega (arith, ltb-false n (p + sent) (by-test (amongFirst n sent p) miss))
   where
     by-test : (b : Bool) → (cond b all dataOnly ≡ all → ⊥) → b ≡ false
     by-test true miss = absurd (miss refl)

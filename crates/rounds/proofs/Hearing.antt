@@ -7,7 +7,7 @@ use borrow.Author.Tests.{eq-eqb, ne-eqb, lt-ltb, le-ltb}
 use Rattle.general.specs.Bits.{member}
 use Rattle.protocol.specs.Message.{nothing, Reach, none, dataOnly, all, arriving}
 use Rattle.protocol.specs.Instance.{Fault, pointFrom}
-use Rattle.protocol.specs.Delivery.{reachAt, reachIn, reach}
+use Rattle.protocol.specs.Delivery.{amongFirst, reachAt, reachIn, reach}
 use Rattle.protocol.specs.Round.{State, sentBy, received}
 use Rattle.tables.specs.InstanceReading.{faultFrom}
 use Rattle.tables.specs.RunReading.{stateFrom}
@@ -29,11 +29,11 @@ module _ (n step set count p : ℕ) where
   at-step-1-out h m = rw (h, m)
 
   pub at-step-2-in : (step ≡ 0 → ⊥) → (step ≡ 1 → ⊥) → n - p < count → reachFrom 2 ≡ reachAt n (pointFrom step set count) p
-  unfolding reachFrom reachAt pointFrom
+  unfolding reachFrom reachAt amongFirst pointFrom
   at-step-2-in h g l = let among : n < p + count = omega arith in simp (ne-eqb, lt-ltb)
 
   pub at-step-2-out : (step ≡ 0 → ⊥) → (step ≡ 1 → ⊥) → p ≤ n → count ≤ n - p → reachFrom 1 ≡ reachAt n (pointFrom step set count) p
-  unfolding reachFrom reachAt pointFrom
+  unfolding reachFrom reachAt amongFirst pointFrom
   at-step-2-out h g m l = let beyond : p + count ≤ n = omega arith in simp (ne-eqb, le-ltb)
 
 -- How far the messages of coordinator r to process p get, by the fault of a crash round, a step, a set and a count.
