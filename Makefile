@@ -18,6 +18,9 @@ CFLAGS_STRICT = -std=c11 -O2 -g -Wall -Wextra -Wpedantic -Wconversion -Werror -I
 LIBRARY = target/staticlib/libagreement.a
 SECOND = cd second && CARGO_TARGET_DIR=../target/second AGREEMENT_LIB_DIR=$(CURDIR)/target/staticlib cargo
 
+COVERAGE_FLAGS = -Cpasses=sancov-module -Cllvm-args=-sanitizer-coverage-level=3 -Cllvm-args=-sanitizer-coverage-inline-8bit-counters \
+  -Cllvm-args=-sanitizer-coverage-pc-table -Cllvm-args=-sanitizer-coverage-trace-compares
+
 .PHONY: all prove run test vectors second-test host-test compare compare-short bench fuzz pictures install
 
 all: prove $(LIBRARY) target/bin/host
@@ -62,11 +65,13 @@ compare-short: $(LIBRARY)
 bench: $(LIBRARY)
 	$(SECOND) run --quiet --release -p against --bin bench
 
+# The second implementation is instrumented for the fuzzer's coverage, in a folder of its own.
 fuzz: $(LIBRARY)
 	command -v clang > /dev/null || { apt-get update && apt-get install -y clang libclang-rt-14-dev; }
 	mkdir -p target/fuzz
 	second/fuzz/seed-corpus target/fuzz/corpus
-	clang -g -O1 -std=c11 -fsanitize=fuzzer,address,undefined second/fuzz/fuzz.c $(LIBRARY) -o target/fuzz/fuzz
+	cd second && RUSTFLAGS='$(COVERAGE_FLAGS)' CARGO_TARGET_DIR=../target/fuzz/second cargo build --quiet --release -p oracle
+	clang -g -O1 -std=c11 -fsanitize=fuzzer,address,undefined second/fuzz/fuzz.c $(LIBRARY) target/fuzz/second/release/liboracle.a -o target/fuzz/fuzz
 	target/fuzz/fuzz -max_len=4200 -max_total_time=$(SECONDS) target/fuzz/corpus
 
 pictures:

@@ -1,11 +1,15 @@
 /* A libFuzzer harness for the five functions of libagreement.a.
  *
  * The first byte of the input picks the function, the rest is what it is
- * called with (seed-corpus writes inputs of this form). Checked is what needs
- * no second implementation: answers in the documented ranges, equal answers to
- * equal calls, refused calls that change nothing, bytes behind those written
- * left alone, and of every result that the processes agree (document 01, and
- * demand 3). */
+ * called with (seed-corpus writes inputs of this form). Checked is first what
+ * needs no second implementation: answers in the documented ranges, equal
+ * answers to equal calls, refused calls that change nothing, bytes behind
+ * those written left alone, and of every result that the processes agree
+ * (document 01, and demand 3); and then that the second implementation answers
+ * alike and leaves the same bytes.
+ *
+ * libagreement.a is not instrumented: the fuzzer is led by the coverage of the
+ * second implementation, which runs the same input, and of this file. */
 
 #include <stdint.h>
 #include <stdio.h>
@@ -18,6 +22,14 @@ uint64_t uc_start(uint64_t process, uint64_t n, uint64_t t, uint32_t value, uint
                   size_t state_len);
 uint64_t uc_speak(const uint8_t *state, size_t state_len, uint8_t *output, size_t output_len);
 uint64_t uc_close(uint8_t *state, size_t state_len, const uint8_t *heard, size_t heard_len);
+
+/* The second implementation (src/lib.rs). */
+uint64_t second_run(const uint8_t *ticket, size_t ticket_len, uint8_t *output, size_t output_len);
+_Bool second_settles(const uint8_t *ticket, size_t ticket_len, uint64_t answer);
+uint64_t second_start(uint64_t process, uint64_t n, uint64_t t, uint32_t value, uint8_t *state,
+                      size_t state_len);
+uint64_t second_speak(const uint8_t *state, size_t state_len, uint8_t *output, size_t output_len);
+uint64_t second_close(uint8_t *state, size_t state_len, const uint8_t *heard, size_t heard_len);
 
 enum {
     LONGEST_TICKET = 4096,
@@ -100,6 +112,11 @@ static int untouched_from(Lent lent, size_t from) {
         if (lent.bytes[at] != guard_byte(GUARD + at)) return 0;
     }
     return 1;
+}
+
+static void check_same(Lent first, Lent second) {
+    CHECK(first.length == second.length);
+    CHECK(memcmp(first.bytes, second.bytes, first.length) == 0);
 }
 
 static unsigned digit_value(uint8_t digit) {
@@ -185,7 +202,10 @@ static void fuzz_run(Input input) {
     uint8_t ample[LONGEST_RESULT];
     uint64_t expected = run_ample(input, ample);
     Lent text = lend(input.bytes, input.length), output = lend(NULL, room);
+    Lent second_output = lend(NULL, room);
     uint64_t answer = uc_run(text.bytes, text.length, output.bytes, output.length);
+    CHECK(second_run(text.bytes, text.length, second_output.bytes, room) == answer);
+    check_same(output, second_output);
     if (expected >= REFUSED) {
         check_refusal(expected, input, 8);
         CHECK(answer == expected && untouched_from(output, 0));
@@ -200,6 +220,7 @@ static void fuzz_run(Input input) {
     }
     take_back(text);
     take_back(output);
+    take_back(second_output);
 }
 
 static void fuzz_settle(Input input) {
@@ -207,6 +228,7 @@ static void fuzz_settle(Input input) {
     uint64_t written = run_ample(input, result);
     Lent text = lend(input.bytes, input.length);
     uint64_t answer = uc_settle(text.bytes, text.length);
+    CHECK(second_settles(text.bytes, text.length, answer));
     if (written >= REFUSED) {
         CHECK(answer == written);
         check_refusal(answer, input, 8);
@@ -221,8 +243,10 @@ static void fuzz_start(Input input) {
     uint64_t process = take_number(&input, 8), n = take_number(&input, 8);
     uint64_t t = take_number(&input, 8);
     uint32_t value = (uint32_t)take_number(&input, 4);
-    Lent state = lend(input.bytes, input.length);
+    Lent state = lend(input.bytes, input.length), second_state = lend(input.bytes, input.length);
     uint64_t answer = uc_start(process, n, t, value, state.bytes, state.length);
+    CHECK(second_start(process, n, t, value, second_state.bytes, state.length) == answer);
+    check_same(state, second_state);
     int valid = 1 <= n && n <= MOST_PROCESSES && t < n && 1 <= process && process <= n;
     if (valid && state.length == STATE) {
         uint8_t expected[STATE] = {(uint8_t)process,       (uint8_t)n,
@@ -235,13 +259,16 @@ static void fuzz_start(Input input) {
         CHECK(answer == 10 && memcmp(state.bytes, input.bytes, input.length) == 0);
     }
     take_back(state);
+    take_back(second_state);
 }
 
 static void fuzz_speak(Input input) {
     size_t room = take_number(&input, 1) % (2 * SPEECH);
     Lent state = lend(input.bytes, input.length), output = lend(NULL, room);
-    Lent after = lend(input.bytes, input.length);
+    Lent after = lend(input.bytes, input.length), second_output = lend(NULL, room);
     uint64_t answer = uc_speak(state.bytes, state.length, output.bytes, output.length);
+    CHECK(second_speak(state.bytes, state.length, second_output.bytes, room) == answer);
+    check_same(output, second_output);
     uint64_t closing = uc_close(after.bytes, after.length, output.bytes, 0);
     CHECK(memcmp(state.bytes, input.bytes, input.length) == 0);
     if (answer == SPEECH) {
@@ -261,12 +288,16 @@ static void fuzz_speak(Input input) {
     take_back(state);
     take_back(output);
     take_back(after);
+    take_back(second_output);
 }
 
 static void fuzz_close(Input input) {
     Input before = take_bytes(&input, take_number(&input, 1) % (2 * STATE));
     Lent state = lend(before.bytes, before.length), heard = lend(input.bytes, input.length);
+    Lent second_state = lend(before.bytes, before.length);
     uint64_t answer = uc_close(state.bytes, state.length, heard.bytes, heard.length);
+    CHECK(second_close(second_state.bytes, state.length, heard.bytes, heard.length) == answer);
+    check_same(state, second_state);
     CHECK(memcmp(heard.bytes, input.bytes, input.length) == 0);
     if (answer != 0) {
         CHECK(10 <= answer && answer <= 12);
@@ -289,6 +320,7 @@ static void fuzz_close(Input input) {
     }
     take_back(state);
     take_back(heard);
+    take_back(second_state);
 }
 
 int LLVMFuzzerTestOneInput(const uint8_t *bytes, size_t length) {
