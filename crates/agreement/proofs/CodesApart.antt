@@ -14,7 +14,7 @@ use Rattle.protocol.proofs.Counts.{counts-fit}
 use Rattle.protocol.proofs.Ends.{states-at-end}
 use Rattle.ticket.specs.Reading.{Reading, accepted, refused}
 use Rattle.ticket.specs.Ticket.{readTicket}
-use Rattle.ticket.proofs.CrashAllowed.{both}
+use Rattle.general.proofs.Tests.{both}
 use Rattle.ticket.proofs.WellFormed.{accepted-well-formed}
 use Rattle.ticket.proofs.RefusalRange.{RefusedBy, lastRefused, ticket-refused}
 use Rattle.result.specs.ResultLine.{resultText, resultSize}

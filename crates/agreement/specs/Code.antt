@@ -4,7 +4,6 @@ use mathlib.Core.Path.{_≡_}
 use Prim.Native.Nat.{ℕ, _+_, _*_}
 use lib.ListN.{length}
 use Rattle.ticket.specs.Reading.{Reading, accepted, refused}
-use Rattle.running.specs.Running.{running, bufferAfter}
 use Rattle.running.specs.Settle.{Settles}
 use Rattle.ticket.specs.Ticket.{readTicket}
 

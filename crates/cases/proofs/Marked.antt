@@ -1,8 +1,7 @@
 -- Cases 1 to 12 of document 01 are what the definitions give: reading, rounds, counts and layout, from the ticket's text to the text written.
 -- Both sides are computed, so the line below names every definition on the way. Assumes nothing.
-use mathlib.Core.List.{List, map}
+use mathlib.Core.List.{map}
 use mathlib.Core.Path.{_≡_, refl}
-use Prim.Native.Nat.{ℕ}
 use lib.Count.{onesIn}
 use Rattle.general.specs.Bits.{member, ones64}
 use Rattle.general.specs.BigEndian.{number, numberFrom, bytesOf}
@@ -13,7 +12,9 @@ use Rattle.protocol.specs.Message.{arriving}
 use Rattle.protocol.specs.Transition.{sends, receives}
 use Rattle.protocol.specs.Delivery.{amongFirst, reachAt, reachIn, reach}
 use Rattle.protocol.specs.Round.{stateOf, crashesIn, sentBy, received, afterOutcome, after, statesAfter}
-use Rattle.protocol.specs.Count.{isUndecided, anyUndecided, dataAt, commitsAt, countIn, speaks, dataIn, commitsIn, isIdle, countsAsCrash, crashCount}
+use Rattle.protocol.specs.Undecided.{isUndecided, anyUndecided}
+use Rattle.protocol.specs.Count.{dataAt, commitsAt, countIn, speaks, dataIn, commitsIn}
+use Rattle.protocol.specs.CrashCount.{isIdle, countsAsCrash, crashCount}
 use Rattle.protocol.specs.Run.{initial, withRound, runTo, runOf, crashesOf}
 use Rattle.lines.specs.Digit.{digitValue, isDigit}
 use Rattle.lines.specs.Line.{scan, closed, unclosed, linesFrom, linesOf}
@@ -23,16 +24,10 @@ use Rattle.ticket.specs.Ticket.{atEnd, readTicket}
 use Rattle.result.specs.HexText.{digitOf, hexDigits, hexLine}
 use Rattle.result.specs.ResultLine.{endBytes, processLine, lastLine, joined, resultLines, resultText, resultSize, refusalLine}
 use Rattle.running.specs.Running.{resultIn, running, written, programWrites}
-use Rattle.cases.specs.Table.{Case, textOf, case1, case2, case3, case4, case5, case6, case7, case8, case9, case10, case10Passes, case11, case12, cases}
+use Rattle.cases.specs.Marked.{writes, says}
+use Rattle.cases.specs.Table.{textOf, case1, case2, case3, case4, case5, case6, case7, case8, case9, case10, case10Passes, case11, case12, cases}
 
--- What the program writes for the case's ticket.
-unfoldable pub writes : Case → List ℕ
-writes c = programWrites (textOf (c .ticket))
-
--- What the case says that it writes.
-unfoldable pub says : Case → List ℕ
-says c = textOf (c .output)
-
+-- For each case the program writes what the case says.
 pub marked-cases : map writes cases ≡ map says cases
 unfolding writes says cases textOf ascii case1 case2 case3 case4 case5 case6 case7 case8 case9 case10 case10Passes case11 case12 onesIn member ones64 number numberFrom bytesOf mapFrom pointFrom faultOf withinLimits arriving sends receives amongFirst reachAt reachIn reach stateOf crashesIn sentBy received afterOutcome after statesAfter isUndecided anyUndecided dataAt commitsAt countIn speaks dataIn commitsIn isIdle countsAsCrash crashCount initial withRound runTo runOf crashesOf digitValue isDigit scan closed unclosed linesFrom linesOf proceed readFrom isKind acceptHeader afterProposal acceptProposal failureLine placesCrash allBetween suitsStep withCrash acceptCrash acceptFailure accept atEnd readTicket digitOf hexDigits hexLine endBytes processLine lastLine joined resultLines resultText resultSize refusalLine resultIn running written programWrites
 marked-cases = refl

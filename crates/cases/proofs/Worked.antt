@@ -1,9 +1,9 @@
 -- What document 01 says besides of two of its cases: in case 1 both rounds 1 and 2 qualify as settling round ('The result', last paragraph), and no other;
 -- and case 9 meets the bound by speakers exactly, where document 001's Theorem 2 fails ('A round', third paragraph, and 'Worked runs'). Computed from the tickets. Assumes nothing.
-use mathlib.Core.List.{List, [], _∷_}
+use mathlib.Core.List.{[], _∷_}
 use mathlib.Core.Path.{_≡_, refl}
-use mathlib.Core.Bool.{Bool, false, _&&_}
-use Prim.Native.Nat.{ℕ, zero, suc, _+_, _-_, _*_, _/_, _≤_, _<_}
+use mathlib.Core.Bool.{_&&_}
+use Prim.Native.Nat.{ℕ, zero, suc, _*_, _≤_, _<_}
 use native.Mathlib.Omega.{arith}
 use lib.Count.{onesIn}
 use lib.Dec.{leb}
@@ -12,25 +12,23 @@ use Rattle.general.specs.Bits.{member, ones64}
 use Rattle.general.specs.BigEndian.{number, numberFrom}
 use Rattle.general.specs.Indexed.{mapFrom}
 use Rattle.general.specs.Text.{ascii}
-use Rattle.protocol.specs.Instance.{Instance, pointFrom, faultOf, withinLimits}
+use Rattle.protocol.specs.Instance.{pointFrom, faultOf, withinLimits}
 use Rattle.protocol.specs.Message.{arriving}
 use Rattle.protocol.specs.Transition.{sends, receives}
 use Rattle.protocol.specs.Delivery.{amongFirst, reachAt, reachIn, reach}
 use Rattle.protocol.specs.Round.{stateOf, crashesIn, sentBy, received, afterOutcome, after, statesAfter}
-use Rattle.protocol.specs.Count.{isUndecided, anyUndecided, dataAt, commitsAt, countIn, speaks, dataIn, commitsIn, isIdle, countsAsCrash, crashCount}
+use Rattle.protocol.specs.Undecided.{isUndecided, anyUndecided}
+use Rattle.protocol.specs.Count.{dataAt, commitsAt, countIn, speaks, dataIn, commitsIn}
+use Rattle.protocol.specs.CrashCount.{isIdle, countsAsCrash, crashCount}
 use Rattle.protocol.specs.Run.{initial, withRound, runTo, runOf, crashesOf}
 use Rattle.protocol.specs.Settling.{valuesHeld, allAre, oneValue, qualifies}
 use Rattle.lines.specs.Digit.{digitValue, isDigit}
 use Rattle.lines.specs.Line.{scan, closed, unclosed, linesFrom, linesOf}
-use Rattle.ticket.specs.Reading.{Reading, accepted, refused, proceed, readFrom}
+use Rattle.ticket.specs.Reading.{proceed, readFrom}
 use Rattle.ticket.specs.Accept.{isKind, acceptHeader, afterProposal, acceptProposal, failureLine, placesCrash, allBetween, suitsStep, withCrash, acceptCrash, acceptFailure, accept}
 use Rattle.ticket.specs.Ticket.{atEnd, readTicket}
 use Rattle.cases.specs.Table.{textOf, case1, case9}
-
--- Whether round r qualifies in the run of a ticket as read.
-unfoldable pub qualifiesIn : Reading Instance → ℕ → Bool
-qualifiesIn (accepted x) r = qualifies x r
-qualifiesIn (refused refusal line) r = false
+use Rattle.cases.specs.Worked.{qualifiesIn, boundsOf}
 
 -- Case 1: rounds 1 and 2 qualify, and no other.
 pub case-1-settles : (r : ℕ) → qualifiesIn (readTicket (textOf (case1 .ticket))) r ≡ (leb 1 r && leb r 2)
@@ -42,22 +40,6 @@ case-1-settles (suc (suc (suc r))) =
     let past : 2 < suc (suc (suc r)) = omega arith in
     let some : 1 ≤ suc (suc (suc r)) = omega arith in
     simp (le-leb 1 (suc (suc (suc r))) some, lt-leb (suc (suc (suc r))) 2 past)
-
--- Document 01's bound for k speakers among n processes, and twice document 001's, (f + 1)(2n − 1 − 3f/2), for f crashes.
-abbrev boundBySpeakers : (n k : ℕ) → ℕ
-boundBySpeakers n k = k * (2 * n - k - 1) - k * (k - 1) / 2
-
-abbrev twiceTheorem2 : (n f : ℕ) → ℕ
-twiceTheorem2 n f = (f + 1) * (2 * (2 * n - 1) - 3 * f)
-
--- n, f, the speakers, the messages sent and the two bounds of a ticket as read.
-unfoldable pub boundsOf : Reading Instance → List ℕ
-boundsOf (accepted x) =
-    x .processes ∷ crashesOf x ∷ runOf x .speakers ∷ (runOf x .dataSent + runOf x .commitsSent)
-    ∷ boundBySpeakers (x .processes) (runOf x .speakers)
-    ∷ twiceTheorem2 (x .processes) (crashesOf x)
-    ∷ []
-boundsOf (refused refusal line) = []
 
 -- Case 9: 10 processes, 9 crashes, 7 speakers; 63 messages, which is the bound; document 001 gives 55.
 pub case-9-meets-bound : boundsOf (readTicket (textOf (case9 .ticket))) ≡ 10 ∷ 9 ∷ 7 ∷ 63 ∷ 63 ∷ (2 * 55) ∷ []

@@ -2,17 +2,17 @@
 use mathlib.Core.List.{List}
 use mathlib.Core.Path.{_≡_, refl, subst}
 use mathlib.Core.Bool.{Bool, true, false, cond, not}
-use Prim.Native.Nat.{ℕ, suc, _-_}
+use Prim.Native.Nat.{ℕ, suc}
 use native.Mathlib.Omega.{arith}
 use borrow.Author.Tests.{eqb-true}
 use lib.Dec.{eqb, leb}
 use lib.ListN.{length, getD}
 use Rattle.protocol.specs.Instance.{Instance, crashes, duringCommits}
 use Rattle.ticket.specs.Reading.{Reading, accepted, refused, Step, next, refuse, proceed}
-use Rattle.ticket.specs.Accept.{Stage, header, proposals, failures, ended, isKind, acceptHeader, acceptProposal, failureLine, placesCrash, suitsStep, withCrash, acceptCrash, acceptFailure, accept}
-use Rattle.ticket.proofs.CrashAllowed.{both}
+use Rattle.ticket.specs.Accept.{Stage, header, proposals, failures, ended, isKind, acceptHeader, acceptProposal, failureLine, placesCrash, suitsStep, faultBy, withCrash, acceptCrash, acceptFailure, accept}
+use Rattle.general.proofs.Tests.{both}
 use Rattle.demands.specs.PairedTexts.{CommitLine}
-use Rattle.demands.proofs.PairedFaults.{faultBy, commit-fault}
+use Rattle.demands.proofs.PairedFaults.{commit-fault}
 
 -- An accepted text, and an accepted line, pass each test.
 pub refuse-next : {S : Type 0} (refusal : ℕ) (s : S) → refuse refusal ≡ next s → ⊥

@@ -1,15 +1,14 @@
 -- Demand 3: of the rounds of every accepted text, and of the bytes of every result that running writes. Assumes nothing.
 use mathlib.Core.Path.{refl, sym, ap, _∙_}
 use Rattle.protocol.specs.Run.{crashesOf}
-use Rattle.protocol.specs.Consensus.{endOf, latestOf}
-use Rattle.protocol.specs.Count.{crashCount}
+use Rattle.protocol.specs.Consensus.{CountsCrashes, endOf, latestOf}
+use Rattle.protocol.specs.CrashCount.{crashCount}
 use Rattle.protocol.proofs.Consensus.{uniform-consensus}
 use Rattle.protocol.proofs.Pair.{no-later}
+use Rattle.protocol.proofs.SameEnds.{SameEnds, consensus-same, no-later-same, ends-in-order}
 use Rattle.ticket.proofs.WellFormed.{accepted-well-formed}
 use Rattle.demands.specs.Said.{endSaid}
-use Rattle.demands.specs.Crashes.{CountsCrashes}
 use Rattle.demands.specs.Demand3.{RoundsClaim, OutputClaim, Demand3}
-use Rattle.demands.proofs.SameEnds.{SameEnds, consensus-same, no-later-same, ends-in-order}
 use Rattle.demands.proofs.PairedTexts.{texts-paired}
 use Rattle.demands.proofs.Outputs.{written-accepted, ends-said, f-said}
 

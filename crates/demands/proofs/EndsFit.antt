@@ -3,19 +3,20 @@ use mathlib.Core.List.{List, _++_}
 use mathlib.Core.Path.{_≡_, refl, sym}
 use Prim.Native.Nat.{ℕ, suc, _-_, _^_, _≤_, _<_}
 use native.Mathlib.Omega.{arith}
-use Rattle.protocol.specs.Instance.{Instance, crashes}
+use Rattle.protocol.specs.Instance.{Instance, crashes, proposalOf}
 use Rattle.protocol.specs.Round.{State, undecided, decided, crashed, stateOf}
 use Rattle.protocol.specs.WellFormed.{WellFormed, FaultAllowed}
 use Rattle.protocol.specs.Run.{runOf, crashesOf}
 use Rattle.protocol.specs.Consensus.{IsProcess, Decides, Validity, DecidesBy, CrashesAsSaid, CrashesNoOther, UniformConsensus, endOf, latestOf}
-use Rattle.protocol.proofs.Counts.{crashes-le, counts-fit}
+use Rattle.protocol.proofs.CrashCount.{crashes-le}
+use Rattle.protocol.proofs.Counts.{counts-fit}
 use Rattle.protocol.proofs.Ends.{states-at-end}
 use Rattle.protocol.proofs.Consensus.{uniform-consensus}
 use Rattle.protocol.proofs.Settled.{none-ends-undecided}
+use Rattle.protocol.proofs.SameEnds.{SameEnds}
 use Rattle.result.specs.ResultLine.{resultText}
 use Rattle.demands.specs.Said.{endSaid, crashesSaid}
 use Rattle.demands.proofs.ResultReadBack.{Fits, RunFits, end-said, crashes-said}
-use Rattle.demands.proofs.SameEnds.{SameEnds}
 
 module _ (x : Instance) (formed : WellFormed x) where
   consensus : UniformConsensus (latestOf x) x (endOf x)
@@ -23,7 +24,7 @@ module _ (x : Instance) (formed : WellFormed x) where
 
   -- A decision is made by round f + 1, on a proposed value.
   decided-fits : (p r v : ℕ) → Decides x (endOf x) p r v → (r < 256) × (v < 2 ^ 32)
-  unfolding Validity DecidesBy latestOf
+  unfolding Validity DecidesBy latestOf proposalOf
   decided-fits p r v d =
       let early : r ≤ suc (crashesOf x) = consensus .earlyDecision p r v d in
       let (q, process, proposed) = consensus .validity p r v d in

@@ -1,7 +1,5 @@
-pub mod NumberBytes
 pub mod LineReadBack
 pub mod ResultReadBack
-pub mod SameEnds
 pub mod EndsFit
 pub mod Outputs
 pub mod PairedFaults

@@ -1,31 +1,24 @@
 -- A line of hexadecimal text read back: its bytes, and the lines of what follows it. Assumes nothing.
 use mathlib.Core.List.{List, [], _∷_, _++_, append-nil, append-assoc}
 use mathlib.Core.Path.{_≡_, refl, _∙_}
-use mathlib.Core.Bool.{Bool, true, false}
+use mathlib.Core.Bool.{true}
 use Prim.Native.Nat.{ℕ, suc, _+_, _*_, _/_, _%_, _<_}
 use native.Mathlib.Omega.{arith}
-use borrow.Author.Tests.{ltb-true, ltb-false}
-use lib.Dec.{ltb}
 use lib.Seq.{append-snoc}
+use Rattle.general.proofs.Tests.{by-order}
+use Rattle.general.proofs.Bytes.{Bytes}
 use Rattle.lines.specs.Digit.{digitValue, isDigit}
 use Rattle.lines.specs.Line.{bytes, even, odd, scan, closed, linesFrom, linesOf}
 use Rattle.lines.proofs.Digit.{value-figure, value-letter, value-digit}
 use Rattle.lines.proofs.FirstLine.{lines-digit, lines-closed}
-use Rattle.ticket.proofs.LineBytes.{Bytes}
 use Rattle.result.specs.HexText.{digitOf, hexDigits, hexLine}
 use Rattle.result.proofs.HexText.{digit-decimal, digit-letter}
 
 -- The value of the digit of a value.
 digit-read-back : (v : ℕ) → v < 16 → digitValue (digitOf v) ≡ v
-digit-read-back v h = by-test (ltb v 10) refl
-  where
-    by-test : (b : Bool) → ltb v 10 ≡ b → digitValue (digitOf v) ≡ v
-    by-test true e =
-        let low : v < 10 = ltb-true v 10 e in
-        rw (digit-decimal v low) (value-figure (48 + v) (omega arith) (omega arith) ∙ omega arith)
-    by-test false e =
-        let high : 9 < v = omega (arith, ltb-false v 10 e) in
-        rw (digit-letter v (omega arith)) (value-letter (55 + v) (omega arith) (omega arith) ∙ omega arith)
+digit-read-back v h =
+    by-order 10 v (λ letter. rw (digit-letter v letter) (value-letter (55 + v) (omega arith) (omega arith) ∙ omega arith))
+    (λ figure. rw (digit-decimal v figure) (value-figure (48 + v) (omega arith) (omega arith) ∙ omega arith))
 
 digit-is-one : (v : ℕ) → v < 16 → isDigit (digitOf v) ≡ true
 digit-is-one v h = value-digit (digitOf v) (omega (arith, digit-read-back v h))

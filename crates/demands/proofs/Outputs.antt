@@ -9,6 +9,7 @@ use lib.ListN.{length, drop}
 use Rattle.protocol.specs.Instance.{Instance}
 use Rattle.protocol.specs.Run.{crashesOf}
 use Rattle.protocol.specs.Consensus.{endOf}
+use Rattle.protocol.proofs.SameEnds.{SameEnds}
 use Rattle.ticket.specs.Reading.{Reading, accepted, refused}
 use Rattle.ticket.specs.Ticket.{readTicket}
 use Rattle.ticket.proofs.WellFormed.{accepted-well-formed}
@@ -19,11 +20,10 @@ use Rattle.running.specs.declared.RunAnswer.the-variants.{Written, Refused}
 use Rattle.demands.specs.Said.{endSaid, crashesSaid}
 use Rattle.demands.specs.Demand3.{Wrote}
 use Rattle.demands.proofs.EndsFit.{ends-in-result, f-in-result}
-use Rattle.demands.proofs.SameEnds.{SameEnds}
 
 -- A refusal writes no result.
-not-refused : (size number line : ℕ) → Written size ≡ Refused number line → ⊥
-not-refused size number line e = let z : _≡_ {A = ℕ} 0 1 = cc in omega arith
+written-not-refused : (size number line : ℕ) → Written size ≡ Refused number line → ⊥
+written-not-refused size number line e = let z : _≡_ {A = ℕ} 0 1 = cc in omega arith
 
 -- A result is written for accepted texts alone.
 pub written-accepted : (text before out : List ℕ) (size : ℕ) → Ran text before out (Written size) → (x : Instance) × (readTicket text ≡ accepted x)
@@ -32,7 +32,7 @@ written-accepted text before out size ran = by-reading (readTicket text) refl
   where
     by-reading : (reading : Reading Instance) → readTicket text ≡ reading → (x : Instance) × (readTicket text ≡ accepted x)
     by-reading (accepted x) e = (x, e)
-    by-reading (refused number line) e = absurd (not-refused size number line (rw e at (ran .answered)))
+    by-reading (refused number line) e = absurd (written-not-refused size number line (rw e at (ran .answered)))
 
 -- The output is the result, and what stood after it.
 result-first : (text : List ℕ) (x : Instance) (out : List ℕ) → Wrote text x out → (rest : List ℕ) × (out ≡ resultText x ++ rest)
@@ -40,7 +40,7 @@ unfolding running resultIn answerOf bufferAfter
 result-first text x out w = by-room (ltb (length (w .before)) (resultSize (x .processes))) refl
   where
     by-room : (short : Bool) → ltb (length (w .before)) (resultSize (x .processes)) ≡ short → (rest : List ℕ) × (out ≡ resultText x ++ rest)
-    by-room true e = absurd (not-refused (w .size) 9 0 (rw (w .read, e) at (w .ran .answered)))
+    by-room true e = absurd (written-not-refused (w .size) 9 0 (rw (w .read, e) at (w .ran .answered)))
     by-room false e = (drop (length (resultText x)) (w .before), rw (w .read, e) at (w .ran .buffer))
 
 module _ (text : List ℕ) (x : Instance) (out : List ℕ) (wrote : Wrote text x out) where

@@ -2,33 +2,30 @@
 use mathlib.Core.List.{List, [], _∷_, _++_}
 use mathlib.Core.Path.{_≡_, refl, sym, _∙_}
 use mathlib.Core.Bool.{Bool, true, false, true≢false, cond}
-use Prim.Native.Nat.{ℕ, zero, suc, _-_, _≤_}
+use Prim.Native.Nat.{ℕ, suc, _-_, _≤_}
 use lib.Dec.{eqb, ltb}
-use lib.ListN.{length, getD, drop, replicate, length-replicate}
+use lib.ListN.{length, getD, drop, length-replicate}
 use Rattle.general.specs.BigEndian.{number}
+use Rattle.general.proofs.Lists.{getD-repeated}
 use Rattle.protocol.specs.Instance.{Instance, correct, faultOf, withinLimits}
 use Rattle.protocol.specs.Consensus.{same, moreCommits, missing, Paired}
 use Rattle.lines.specs.Line.{Line, bytes, noLine}
 use Rattle.ticket.specs.Reading.{Reading, accepted, refused, next, readFrom}
 use Rattle.ticket.specs.Accept.{Stage, header, proposals, failures, ended, isKind, acceptHeader, afterProposal, acceptProposal, failureLine, accept}
 use Rattle.ticket.specs.Ticket.{ticketLimit, atEnd, readTicket}
+use Rattle.ticket.proofs.CrashAllowed.{crash-placed}
 use Rattle.demands.specs.PairedTexts.{CommitLine, PairedLines, noLines, sameLine, countNoLower, missingLine, PairedTexts}
 use Rattle.demands.proofs.AcceptedLine.{refused-accepted, refuse-next, passes-if, proceeds, Taken, takenEnd, takenCrash, taken, commit-at, not-the-end, stated-fault}
-use Rattle.demands.proofs.PairedFaults.{placed-if, Alike, alike-paired, alike-both, alike-first}
+use Rattle.demands.proofs.PairedFaults.{PairedSoFar, so-far-paired, so-far-both, so-far-first}
 
 -- The stages of both texts.
 data Alongside : Stage → Stage → Type 0 where
   bothHeader : Alongside header header
   bothProposals : {n t : ℕ} {values : List ℕ} → Alongside (proposals n t values) (proposals n t values)
-  bothFailures : {x y : Instance} {lines lines′ last last′ : ℕ} → Alike x y last → Alongside (failures x lines last) (failures y lines′ last′)
+  bothFailures : {x y : Instance} {lines lines′ last last′ : ℕ} → PairedSoFar x y last → Alongside (failures x lines last) (failures y lines′ last′)
   bothEnded : {x y : Instance} → Paired x y → Alongside (ended x) (ended y)
 
 -- After the proposals every process is correct in both.
-none-fails : (n k : ℕ) → getD (replicate n correct) k correct ≡ correct
-none-fails zero k = refl
-none-fails (suc n) zero = refl
-none-fails (suc n) (suc k) = none-fails n k
-
 after-proposal : (n t : ℕ) (values : List ℕ) (test : Bool) → eqb (length values) n ≡ test → Alongside (afterProposal n t values) (afterProposal n t values)
 unfolding afterProposal faultOf
 after-proposal n t values true e =
@@ -41,18 +38,18 @@ after-proposal n t values true e =
       sized = length-replicate n correct;
       sized′ = length-replicate n correct;
       lines = λ p first. same;
-      later = λ p h. none-fails n (p - 1);
+      later = λ p h. getD-repeated n (p - 1) correct;
     }))
 after-proposal n t values false e = rw e bothProposals
 
-module _ (x y : Instance) (last : ℕ) (alike : Alike x y last) where
+module _ (x y : Instance) (last : ℕ) (so-far : PairedSoFar x y last) where
   -- A line among the failure lines: the same in both, one with more commits in the second, or one that is missing there.
   same-failure : {last′ : ℕ} {b : List ℕ} {u u′ : Stage} → Taken x last b u → Taken y last′ b u′ → Alongside u u′
-  same-failure (takenEnd kind) (takenEnd kind′) = bothEnded (alike-paired x y last alike)
+  same-failure (takenEnd kind) (takenEnd kind′) = bothEnded (so-far-paired x y last so-far)
   same-failure (takenEnd kind) (takenCrash kind′ _ _) = absurd (true≢false (sym kind ∙ kind′))
   same-failure (takenCrash kind _ _) (takenEnd kind′) = absurd (true≢false (sym kind′ ∙ kind))
   same-failure {b = b} (takenCrash kind placed suits) (takenCrash kind′ placed′ suits′) =
-      bothFailures (alike-both x y last alike (failureLine b) (placed-if x last (failureLine b) (alike .sized) placed) (failureLine b) refl same)
+      bothFailures (so-far-both x y last so-far (failureLine b) (crash-placed (x .processes) (x .resilience) last (failureLine b) placed) (failureLine b) refl same)
 
   more-commits : {last′ : ℕ} {b c : List ℕ} {u u′ : Stage} → CommitLine b → CommitLine c → getD b 1 0 ≡ getD c 1 0 → getD b 12 0 ≤ getD c 12 0
       → Taken x last b u → Taken y last′ c u′ → Alongside u u′
@@ -63,14 +60,14 @@ module _ (x y : Instance) (last : ℕ) (alike : Alike x y last) where
       let fault = stated-fault x last b line placed suits in
       let fault′ = stated-fault y last′ c line′ placed′ suits′ in
       bothFailures
-      (alike-both x y last alike (failureLine b) (placed-if x last (failureLine b) (alike .sized) placed) (failureLine c) station
+      (so-far-both x y last so-far (failureLine b) (crash-placed (x .processes) (x .resilience) last (failureLine b) placed) (failureLine c) station
       (rw (fault, fault′, station) (moreCommits count)))
 
   missing-commits : {lines′ last′ : ℕ} {b : List ℕ} {u : Stage} → CommitLine b → Taken x last b u → Alongside u (failures y lines′ last′)
   missing-commits {b = b} line (takenEnd kind) = absurd (not-the-end b line kind)
   missing-commits {b = b} line (takenCrash kind placed suits) =
       bothFailures
-      (alike-first x y last alike (failureLine b) (placed-if x last (failureLine b) (alike .sized) placed)
+      (so-far-first x y last so-far (failureLine b) (crash-placed (x .processes) (x .resilience) last (failureLine b) placed)
       (rw (stated-fault x last b line placed suits) missing))
 
 -- The same line in both.
@@ -88,8 +85,8 @@ same-step s s′ b u u′ (bothProposals {n} {t} {values}) e e′ =
     let at : afterProposal n t (values ++ (number (drop 2 b) ∷ [])) ≡ u = cc in
     let alike : u ≡ u′ = cc in
     rw (← alike, ← at) (after-proposal n t _ _ refl)
-same-step s s′ b u u′ (bothFailures {x} {y} {lines} {lines′} {last} {last′} alike) e e′ =
-    same-failure x y last alike (taken x lines last b u e) (taken y lines′ last′ b u′ e′)
+same-step s s′ b u u′ (bothFailures {x} {y} {lines} {lines′} {last} {last′} so-far) e e′ =
+    same-failure x y last so-far (taken x lines last b u e) (taken y lines′ last′ b u′ e′)
 same-step s s′ b u u′ (bothEnded paired) e e′ = absurd (refuse-next 3 u e)
 
 commit-step : (s s′ : Stage) (b c : List ℕ) (u u′ : Stage) → CommitLine b → CommitLine c → getD b 1 0 ≡ getD c 1 0 → getD b 12 0 ≤ getD c 12 0
@@ -97,15 +94,15 @@ commit-step : (s s′ : Stage) (b c : List ℕ) (u u′ : Stage) → CommitLine 
 unfolding accept
 commit-step s s′ b c u u′ line line′ station count bothHeader e e′ = absurd (commit-at header b u line e)
 commit-step s s′ b c u u′ line line′ station count (bothProposals {n} {t} {values}) e e′ = absurd (commit-at (proposals n t values) b u line e)
-commit-step s s′ b c u u′ line line′ station count (bothFailures {x} {y} {lines} {lines′} {last} {last′} alike) e e′ =
-    more-commits x y last alike line line′ station count (taken x lines last b u e) (taken y lines′ last′ c u′ e′)
+commit-step s s′ b c u u′ line line′ station count (bothFailures {x} {y} {lines} {lines′} {last} {last′} so-far) e e′ =
+    more-commits x y last so-far line line′ station count (taken x lines last b u e) (taken y lines′ last′ c u′ e′)
 commit-step s s′ b c u u′ line line′ station count (bothEnded {x} paired) e e′ = absurd (commit-at (ended x) b u line e)
 
 missing-step : (s s′ : Stage) (b : List ℕ) (u : Stage) → CommitLine b → Alongside s s′ → accept s b ≡ next u → Alongside u s′
 unfolding accept
 missing-step s s′ b u line bothHeader e = absurd (commit-at header b u line e)
 missing-step s s′ b u line (bothProposals {n} {t} {values}) e = absurd (commit-at (proposals n t values) b u line e)
-missing-step s s′ b u line (bothFailures {x} {y} {lines} {lines′} {last} {last′} alike) e = missing-commits x y last alike line (taken x lines last b u e)
+missing-step s s′ b u line (bothFailures {x} {y} {lines} {lines′} {last} {last′} so-far) e = missing-commits x y last so-far line (taken x lines last b u e)
 missing-step s s′ b u line (bothEnded {x} paired) e = absurd (commit-at (ended x) b u line e)
 
 -- Both texts are over.
@@ -113,7 +110,7 @@ end-step : (s s′ : Stage) (k k′ : ℕ) (x y : Instance) → Alongside s s′
 unfolding atEnd
 end-step s s′ k k′ x y bothHeader e e′ = absurd (refused-accepted 3 k x e)
 end-step s s′ k k′ x y bothProposals e e′ = absurd (refused-accepted 3 k x e)
-end-step s s′ k k′ x y (bothFailures alike) e e′ = absurd (refused-accepted 3 k x e)
+end-step s s′ k k′ x y (bothFailures so-far) e e′ = absurd (refused-accepted 3 k x e)
 end-step s s′ k k′ x y (bothEnded {x = z} {y = w} paired) e e′ =
     let first : z ≡ x = cc in
     let second : w ≡ y = cc in

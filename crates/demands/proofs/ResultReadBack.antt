@@ -8,16 +8,15 @@ use lib.ListN.{length, getD, List·getD-append}
 use lib.Seq.{getD-at}
 use Rattle.general.specs.BigEndian.{bytesOf}
 use Rattle.general.specs.Indexed.{mapFrom}
-use Rattle.general.proofs.Indexed.{length-mapFrom, getD-mapFrom}
+use Rattle.general.proofs.Bytes.{Bytes, bytes-append}
+use Rattle.general.proofs.BigEndian.{bytes-of-number, number-bytes}
+use Rattle.general.proofs.Indexed.{length-mapFrom, mapFrom-at}
 use Rattle.protocol.specs.Round.{State, undecided, decided, crashed, stateOf}
 use Rattle.protocol.specs.Run.{Run}
 use Rattle.lines.specs.Line.{Line, bytes, noLine, linesOf}
 use Rattle.ticket.specs.Accept.{isKind}
-use Rattle.ticket.proofs.LineBytes.{Bytes}
 use Rattle.result.specs.ResultLine.{endBytes, processLine, lastLine, joined, resultLines}
 use Rattle.demands.specs.Said.{isProcessLine, endIn, endFrom, crashesFrom, lineAt, endSaid, crashesSaid}
-use Rattle.general.proofs.BigEndian.{number-bytes}
-use Rattle.demands.proofs.NumberBytes.{bytes-append, bytes-of-number}
 use Rattle.demands.proofs.LineReadBack.{line-read-back}
 
 -- A process that ended so can be read back: it has decided or crashed, in a round of one byte, on a value of four.
@@ -30,8 +29,8 @@ Fits (crashed r) = r < 256
 abbrev lineBytes : ℕ → State → List ℕ
 lineBytes p s = 0x11 ∷ p ∷ endBytes s
 
-abbrev lineOf : ℕ → State → Line
-lineOf p s = bytes (lineBytes p s)
+abbrev processLineOf : ℕ → State → Line
+processLineOf p s = bytes (lineBytes p s)
 
 -- Four bytes, and those of numbers after them, as every line of a result has.
 four-then : (a b c d : ℕ) (bs : List ℕ) → a < 256 → b < 256 → c < 256 → d < 256 → Bytes bs → Bytes (a ∷ b ∷ c ∷ d ∷ bs)
@@ -41,11 +40,11 @@ four-then a b c d bs ha hb hc hd h (suc (suc zero)) = hc
 four-then a b c d bs ha hb hc hd h (suc (suc (suc zero))) = hd
 four-then a b c d bs ha hb hc hd h (suc (suc (suc (suc i)))) = h i
 
-line-bytes : (p : ℕ) (s : State) → p < 256 → Fits s → Bytes (lineBytes p s)
+process-line-bytes : (p : ℕ) (s : State) → p < 256 → Fits s → Bytes (lineBytes p s)
 unfolding Fits endBytes
-line-bytes p (undecided v) h fits = absurd fits
-line-bytes p (decided r v) h fits = four-then 0x11 p 1 r (bytesOf 4 v) (omega arith) h (omega arith) (fits .0) (bytes-of-number 4 v)
-line-bytes p (crashed r) h fits = four-then 0x11 p 2 r (bytesOf 4 0) (omega arith) h (omega arith) fits (bytes-of-number 4 0)
+process-line-bytes p (undecided v) h fits = absurd fits
+process-line-bytes p (decided r v) h fits = four-then 0x11 p 1 r (bytesOf 4 v) (omega arith) h (omega arith) (fits .0) (bytes-of-number 4 v)
+process-line-bytes p (crashed r) h fits = four-then 0x11 p 2 r (bytesOf 4 0) (omega arith) h (omega arith) fits (bytes-of-number 4 0)
 
 -- What the line says.
 end-read-back : (p : ℕ) (s : State) → Fits s → endIn p (lineBytes p s) ≡ s
@@ -57,13 +56,13 @@ end-read-back p (crashed r) fits = rw (eq-eqb p p refl, number-bytes 4 0 (omega 
 -- The lines of processes, of which the first is process p.
 processes-read-back : (states : List State) (p : ℕ) (rest : List ℕ) → p + length states ≤ 256
     → ((k : ℕ) → k < length states → Fits (getD states k (crashed 0)))
-    → linesOf (joined (mapFrom processLine p states) ++ rest) ≡ mapFrom lineOf p states ++ linesOf rest
+    → linesOf (joined (mapFrom processLine p states) ++ rest) ≡ mapFrom processLineOf p states ++ linesOf rest
 unfolding mapFrom joined processLine
 processes-read-back [] p rest few fits = refl
 processes-read-back (s ∷ states) p rest few fits =
     rw append-assoc
-    (line-read-back 0x11 (p ∷ endBytes s) (joined (mapFrom processLine (suc p) states) ++ rest) (line-bytes p s (omega arith) (fits 0 (omega arith)))
-    ∙ ap (λ (lines : List Line). lineOf p s ∷ lines) (processes-read-back states (suc p) rest (omega arith) (λ k h. fits (suc k) (omega arith))))
+    (line-read-back 0x11 (p ∷ endBytes s) (joined (mapFrom processLine (suc p) states) ++ rest) (process-line-bytes p s (omega arith) (fits 0 (omega arith)))
+    ∙ ap (λ (lines : List Line). processLineOf p s ∷ lines) (processes-read-back states (suc p) rest (omega arith) (λ k h. fits (suc k) (omega arith))))
 
 -- A run and its f whose result can be read back.
 pub record RunFits (run : Run) (f n : ℕ) : Type 0 where
@@ -91,30 +90,28 @@ module _ (run : Run) (f n : ℕ) (fits : RunFits run f n) where
 
   -- All lines of the result.
   result-read-back : (rest : List ℕ)
-      → linesOf (resultLines run f ++ rest) ≡ mapFrom lineOf 1 (run .states) ++ (bytes lastBytes ∷ linesOf rest)
+      → linesOf (resultLines run f ++ rest) ≡ mapFrom processLineOf 1 (run .states) ++ (bytes lastBytes ∷ linesOf rest)
   unfolding resultLines
   result-read-back rest =
       rw append-assoc
       (processes-read-back (run .states) 1 (lastLine run f ++ rest) (omega arith) (λ k h. fits .states k (omega arith))
-      ∙ ap (λ (lines : List Line). mapFrom lineOf 1 (run .states) ++ lines) (last-read-back rest))
+      ∙ ap (λ (lines : List Line). mapFrom processLineOf 1 (run .states) ++ lines) (last-read-back rest))
 
   -- How a process ended, by the result.
   pub end-said : (rest : List ℕ) (p : ℕ) → 1 ≤ p → p ≤ n → endSaid (resultLines run f ++ rest) p ≡ stateOf (run .states) p
   unfolding endSaid lineAt endFrom stateOf
   end-said rest p first last =
-      let rows : List Line = mapFrom lineOf 1 (run .states) in
-      let same : 1 + (p - 1) ≡ p = omega arith in
-      let inside : p - 1 < length rows = rw (length-mapFrom lineOf 1 (run .states)) (omega arith) in
+      let rows : List Line = mapFrom processLineOf 1 (run .states) in
+      let inside : p - 1 < length rows = rw (length-mapFrom processLineOf 1 (run .states)) (omega arith) in
       ap (λ (lines : List Line). endFrom p (getD lines (p - 1) noLine)) (result-read-back rest)
       ∙ ap (endFrom p) (List·getD-append rows (bytes lastBytes ∷ linesOf rest) noLine (p - 1) inside)
-      ∙ ap (endFrom p) (getD-mapFrom lineOf 1 (run .states) (p - 1) (crashed 0) noLine (omega arith))
-      ∙ ap (λ (q : ℕ). endIn p (lineBytes q (getD (run .states) (p - 1) (crashed 0)))) same
+      ∙ ap (endFrom p) (mapFrom-at processLineOf (run .states) p (crashed 0) noLine first (omega arith))
       ∙ end-read-back p _ (fits .states (p - 1) (omega arith))
 
   -- f, by the result.
   pub crashes-said : (rest : List ℕ) → crashesSaid (resultLines run f ++ rest) n ≡ f
   unfolding crashesSaid lineAt crashesFrom isKind bytesOf
   crashes-said rest =
-      let rows : List Line = mapFrom lineOf 1 (run .states) in
+      let rows : List Line = mapFrom processLineOf 1 (run .states) in
       ap (λ (lines : List Line). crashesFrom (getD lines n noLine)) (result-read-back rest)
-      ∙ ap crashesFrom (getD-at rows (bytes lastBytes) (linesOf rest) noLine n (length-mapFrom lineOf 1 (run .states) ∙ fits .all-end))
+      ∙ ap crashesFrom (getD-at rows (bytes lastBytes) (linesOf rest) noLine n (length-mapFrom processLineOf 1 (run .states) ∙ fits .all-end))

@@ -5,13 +5,12 @@ use mathlib.Core.Path.{_≡_}
 use Prim.Native.Nat.{ℕ, suc}
 use Rattle.protocol.specs.Instance.{Instance}
 use Rattle.protocol.specs.Run.{crashesOf}
-use Rattle.protocol.specs.Consensus.{UniformConsensus, NoLater, endOf, latestOf}
+use Rattle.protocol.specs.Consensus.{UniformConsensus, CountsCrashes, NoLater, endOf, latestOf}
 use Rattle.ticket.specs.Reading.{accepted}
 use Rattle.ticket.specs.Ticket.{readTicket}
 use Rattle.running.specs.Answer.{Ran}
 use Rattle.running.specs.declared.RunAnswer.the-variants.{Written}
 use Rattle.demands.specs.Said.{endSaid, crashesSaid}
-use Rattle.demands.specs.Crashes.{CountsCrashes}
 use Rattle.demands.specs.PairedTexts.{PairedTexts}
 
 -- Of the rounds of every accepted text, and of every two that are paired line by line.

@@ -1,5 +1,4 @@
 pub mod Said
-pub mod Crashes
 pub mod PairedTexts
 pub mod Demand3
 pub mod BoundClaim

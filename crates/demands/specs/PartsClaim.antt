@@ -7,7 +7,7 @@ use Rattle.protocol.specs.Consensus.{UniformConsensus, NoLater}
 use Rattle.ticket.specs.Reading.{accepted}
 use Rattle.ticket.specs.Ticket.{readTicket}
 use Rattle.parts.specs.DecideAlike.{DecideAlike, NoneRefused}
-use Rattle.parts.specs.PartEnds.{endIn, latestIn}
+use Rattle.parts.specs.PartEnds.{endByPart, latestByParts}
 use Rattle.demands.specs.PairedTexts.{PairedTexts}
 
 -- Of the parts of every accepted text, and of every two texts that are paired line by line.
@@ -17,5 +17,5 @@ pub record PartsClaim : Type 0 where
   -- none of their calls is refused while they are open
   pub noneRefused : (text : List ℕ) (x : Instance) → readTicket text ≡ accepted x → NoneRefused x
   -- demand 3, by their own bytes
-  pub consensus : (text : List ℕ) (x : Instance) → readTicket text ≡ accepted x → UniformConsensus (latestIn x) x (endIn x)
-  pub noLater : (a b : List ℕ) (x y : Instance) → readTicket a ≡ accepted x → readTicket b ≡ accepted y → PairedTexts a b → NoLater x (endIn x) y (endIn y)
+  pub consensus : (text : List ℕ) (x : Instance) → readTicket text ≡ accepted x → UniformConsensus (latestByParts x) x (endByPart x)
+  pub noLater : (a b : List ℕ) (x y : Instance) → readTicket a ≡ accepted x → readTicket b ≡ accepted y → PairedTexts a b → NoLater x (endByPart x) y (endByPart y)

@@ -1,10 +1,12 @@
--- Laws of big-endian numbers: one byte more, the bytes of two and of four written out, and that a number comes back from its bytes. Assumes nothing.
+-- Laws of big-endian numbers: one byte more, the bytes of two and of four written out, how large a number so many bytes hold, and that a number comes back from its bytes. Assumes nothing.
 use mathlib.Core.List.{List, [], _∷_, _++_}
 use mathlib.Core.Path.{_≡_, refl, ap, _∙_}
 use Prim.Native.Nat.{ℕ, zero, suc, _+_, _*_, _/_, _%_, _^_, _<_}
-use native.Mathlib.Nat.{pow-suc, pow-zero}
+use native.Mathlib.Nat.{pow-suc, pow-zero, mul-one, mul-assoc, mul-comm}
 use native.Mathlib.Omega.{arith}
+use lib.ListN.{length}
 use Rattle.general.specs.BigEndian.{number, numberFrom, bytesOf}
+use Rattle.general.proofs.Bytes.{Bytes, below-snoc}
 
 pub numberFrom-snoc : (high : ℕ) (bs : List ℕ) (b : ℕ) → numberFrom high (bs ++ (b ∷ [])) ≡ numberFrom high bs * 256 + b
 unfolding numberFrom
@@ -20,6 +22,25 @@ number-bytes (suc width) v h =
     numberFrom-snoc 0 (bytesOf width (v / 256)) (v % 256)
     ∙ ap (λ (w : ℕ). w * 256 + v % 256) (number-bytes width (v / 256) (omega arith))
     ∙ omega arith
+
+from-below : (b : List ℕ) (high bound : ℕ) → Bytes b → high < bound → numberFrom high b < bound * 256 ^ length b
+unfolding numberFrom
+from-below [] high bound h g = rw (pow-zero, mul-one) g
+from-below (a ∷ b) high bound h g =
+    let a-byte : a < 256 = h 0 in
+    let more : numberFrom (high * 256 + a) b < bound * 256 * 256 ^ length b = from-below b (high * 256 + a) (bound * 256) (λ i. h (suc i)) (omega arith) in
+    rw (pow-suc, mul-comm (256 ^ length b) 256, ← mul-assoc) more
+
+-- So many bytes stand for a number below that power of 256.
+pub number-below : (b : List ℕ) → Bytes b → number b < 256 ^ length b
+unfolding number
+number-below b h = let less : numberFrom 0 b < 1 * 256 ^ length b = from-below b 0 1 h (omega arith) in omega arith
+
+-- The bytes of a number are bytes.
+pub bytes-of-number : (width v : ℕ) → Bytes (bytesOf width v)
+unfolding bytesOf
+bytes-of-number zero v = λ i. omega arith
+bytes-of-number (suc width) v = below-snoc 256 (bytesOf width (v / 256)) (v % 256) (bytes-of-number width (v / 256)) (omega arith)
 
 pub bytes-two : (v : ℕ) → bytesOf 2 v ≡ v / 256 % 256 ∷ v % 256 ∷ []
 unfolding bytesOf

@@ -1,6 +1,7 @@
--- Sets of processes as the bits of a number: membership and size.
-use Prim.Native.Nat.{ℕ, _-_, _/_, _%_, _^_}
-use mathlib.Core.Bool.{Bool}
+-- Sets of processes as the bits of a number: membership, size and members (document 01, 'The ticket': 'bit j − 1 stands for station j').
+use mathlib.Core.List.{List, [], _∷_}
+use Prim.Native.Nat.{ℕ, zero, suc, _-_, _/_, _%_, _^_}
+use mathlib.Core.Bool.{Bool, cond}
 use lib.Count.{onesIn}
 use lib.Dec.{eqb}
 
@@ -11,3 +12,10 @@ member p set = eqb (set / 2 ^ (p - 1) % 2) 1
 -- How many of the 64 bits are 1. (`lib.Count.ones`, the language's count, at a width that computes.)
 unfoldable pub ones64 : ℕ → ℕ
 ones64 set = onesIn 64 set
+
+-- The members of a set among the processes 1 to k, highest first.
+unfoldable pub membersTo : ℕ → ℕ → List ℕ
+membersTo zero set = []
+membersTo (suc k) set =
+    let lower = membersTo k set in
+    cond (member (suc k) set) (suc k ∷ lower) lower

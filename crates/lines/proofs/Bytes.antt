@@ -4,6 +4,7 @@ use mathlib.Core.Path.{_≡_, refl, ap, _∙_}
 use Prim.Native.Nat.{ℕ, zero, suc, _+_, _*_, _-_, _≤_, _<_}
 use native.Mathlib.Omega.{arith}
 use lib.ListN.{length, getD, take, drop}
+use Rattle.general.proofs.Bytes.{Bytes}
 use Rattle.lines.specs.Digit.{digitValue}
 use Rattle.lines.specs.Bytes.{byteAt, bytesAt, HoldsBytes}
 use Rattle.lines.proofs.Digit.{digit-value}
@@ -77,3 +78,10 @@ module _ (text : List ℕ) where
     pub byteAt-small : byteAt text place < 256
     unfolding byteAt
     byteAt-small = omega (arith, high-small, low-small)
+
+  -- What the digits make are bytes.
+  pub bytesAt-small : (place size : ℕ) → HoldsBytes text place size → Bytes (bytesAt text place size)
+  unfolding bytesAt
+  bytesAt-small place zero h i = omega arith
+  bytesAt-small place (suc size) h zero = byteAt-small place (holds-front place (suc size) 1 h (omega arith))
+  bytesAt-small place (suc size) h (suc i) = bytesAt-small (place + 2) size (holds-part place (suc size) 1 size h (omega arith)) i

@@ -4,10 +4,10 @@ use mathlib.Core.Path.{_≡_, refl, sym, _∙_}
 use mathlib.Core.Bool.{Bool, true, false}
 use Prim.Native.Nat.{ℕ, suc, _+_, _-_, _%_, _≤_, _<_}
 use native.Mathlib.Omega.{arith}
-use borrow.Author.Tests.{leb-true, leb-false, eqb-true, eqb-false}
-use lib.Dec.{leb, eqb}
+use lib.Dec.{eqb}
 use lib.ListN.{length, getD, drop, drop-of-length-le}
 use lib.Seq.{drop-cons}
+use Rattle.general.proofs.Tests.{by-order, by-equal}
 use Rattle.lines.specs.Digit.{isDigit}
 use Rattle.lines.specs.DigitCount.{digitCount}
 use Rattle.lines.specs.Line.{Line, bytes, noLine, Scan, even, odd, broken, scan, unclosed, linesFrom, linesOf}
@@ -16,20 +16,6 @@ use Rattle.lines.specs.LineAt.{LineAt}
 use Rattle.lines.specs.declared.Cursor.{Cursor}
 use Rattle.lines.specs.declared.LineRead.the-variants.{Line as line, NoLine}
 use Rattle.lines.proofs.Answer.{answer-unclosed, answer-other, answer-empty, answer-odd, answer-line, line-at}
-
--- By cases on an order, and on an equality.
-
-by-order : {C : Type 0} (a b : ℕ) → (a ≤ b → C) → (b < a → C) → C
-by-order {C} a b f g = pick (leb a b) refl where
-  pick : (t : Bool) → leb a b ≡ t → C
-  pick true e = f (leb-true a b e)
-  pick false e = g (leb-false a b e)
-
-by-equal : {C : Type 0} (a b : ℕ) → (a ≡ b → C) → ((a ≡ b → ⊥) → C) → C
-by-equal {C} a b f g = pick (eqb a b) refl where
-  pick : (t : Bool) → eqb a b ≡ t → C
-  pick true e = f (eqb-true a b e)
-  pick false e = g (eqb-false a b e)
 
 -- A text with a character in it has a line.
 

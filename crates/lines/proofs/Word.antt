@@ -1,14 +1,14 @@
 -- Laws of the number that bytes read in place stand for: one byte more, and that eight bytes fit 64 bits. Assumes nothing.
 use mathlib.Core.List.{List}
 use mathlib.Core.Path.{_≡_, ap, _∙_}
-use Prim.Native.Nat.{ℕ, zero, suc, _+_, _*_, _^_, _≤_, _<_}
-use native.Mathlib.Nat.{pow-suc, pow-le-pow-right}
+use Prim.Native.Nat.{ℕ, suc, _+_, _*_, _^_, _≤_, _<_}
+use native.Mathlib.Nat.{pow-le-pow-right}
 use native.Mathlib.Numerals.{add-one}
 use native.Mathlib.Omega.{arith}
 use Rattle.general.specs.BigEndian.{number, numberFrom}
-use Rattle.general.proofs.BigEndian.{numberFrom-snoc}
+use Rattle.general.proofs.BigEndian.{numberFrom-snoc, number-below}
 use Rattle.lines.specs.Bytes.{byteAt, bytesAt, HoldsBytes}
-use Rattle.lines.proofs.Bytes.{bytesAt-suc, holds-front, holds-part, byteAt-small}
+use Rattle.lines.proofs.Bytes.{length-bytesAt, bytesAt-suc, holds-front, holds-part, bytesAt-small}
 
 module _ (text : List ℕ) where
   number-suc : (place i : ℕ) → number (bytesAt text place (suc i)) ≡ number (bytesAt text place i) * 256 + byteAt text (place + 2 * i)
@@ -17,12 +17,7 @@ module _ (text : List ℕ) where
 
   -- A number of `i` bytes.
   pub number-small : (place i : ℕ) → HoldsBytes text place i → number (bytesAt text place i) < 256 ^ i
-  unfolding number numberFrom bytesAt
-  number-small place zero h = omega arith
-  number-small place (suc i) h =
-      let n : number (bytesAt text place i) < 256 ^ i = number-small place i (holds-front text place (suc i) i h (omega arith)) in
-      let b : byteAt text (place + 2 * i) < 256 = byteAt-small text (place + 2 * i) (holds-part text place (suc i) i 1 h (omega arith)) in
-      rw (number-suc place i) (omega (arith, pow-suc 256 i))
+  number-small place i h = rw length-bytesAt at (number-below (bytesAt text place i) (bytesAt-small text place i h))
 
   -- One turn of `line_word`: `width` bytes of a line, from byte `k` on, and `i` of them are read.
   module _ (at k width i : ℕ) (h : HoldsBytes text (at + 2 * k) width) (l : i < width) where

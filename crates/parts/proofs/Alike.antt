@@ -2,9 +2,8 @@
 use mathlib.Core.List.{[]}
 use mathlib.Core.Path.{_≡_, refl, _∙_}
 use mathlib.Core.Bool.{Bool, true, false, cond}
-use Prim.Native.Nat.{ℕ, zero, suc, _^_, _≤_, _<_}
+use Prim.Native.Nat.{ℕ, suc, _^_, _≤_, _<_}
 use native.Mathlib.Omega.{arith}
-use native.Mathlib.Nat.{lt-of-not-le}
 use lib.Dec.{eqb}
 use borrow.Author.Tests.{eq-eqb, ne-eqb, eqb-true, eqb-false}
 use Rattle.protocol.specs.Message.{Messages, nothing}
@@ -13,9 +12,9 @@ use Rattle.protocol.specs.Transition.{Outcome, continues, decides, sends, recei
 use Rattle.protocol.specs.Round.{State, undecided, crashed, sentBy, crashesIn, afterOutcome, after}
 use Rattle.protocol.specs.WellFormed.{WellFormed}
 use Rattle.protocol.specs.Consensus.{IsProcess}
-use Rattle.protocol.proofs.Pointwise.{proposalOf, stateAt, state-at}
-use Rattle.protocol.proofs.Values.{Holds, holds-after-round}
-use Rattle.protocol.proofs.Coordinator.{own-round-over}
+use Rattle.protocol.proofs.Pointwise.{stateAt, state-at}
+use Rattle.protocol.proofs.Values.{Holds, holds-fitting}
+use Rattle.protocol.proofs.Coordinator.{waits-below}
 use Rattle.process.specs.PartState.{stateBytes, stateFrom, stateValid, isOwnRound, markOpen, markDecided}
 use Rattle.process.specs.Frame.{Carried, framesOf}
 use Rattle.process.specs.Speak.{speakRefusal, speakYields}
@@ -38,25 +37,16 @@ module _ (x : Instance) (formed : WellFormed x) where
   pub identity : (p : ℕ) → IsProcess x p → Identity p (x .processes) (x .resilience)
   identity p process = record { process = process .first; within = process .last; processes = formed .at-most-64; resilience = formed .fewer-crashes }
 
-  -- Every value held has four bytes.
-  pub holds-fitting : (r p : ℕ) → Holds (λ v. v < 2 ^ 32) (stateAt x r p)
-  unfolding stateAt Holds proposalOf
-  holds-fitting zero p = formed .values-fit _
-  holds-fitting (suc r) p = holds-after-round _ x r p (holds-fitting r (suc r)) (holds-fitting r p)
-
   module _ (r p : ℕ) (within : r ≤ x .resilience) (process : IsProcess x p) where
     module _ (v : ℕ) (waiting : stateAt x r p ≡ undecided v) where
-      own-round-ahead : r < p
-      own-round-ahead = lt-of-not-le (λ (over : p ≤ r). own-round-over x r p v (process .first) over waiting)
-
       value-fits : v < 2 ^ 32
       unfolding Holds
-      value-fits = rw waiting at (holds-fitting r p)
+      value-fits = rw waiting at (holds-fitting x formed r p)
 
       -- The part of an undecided process is in a valid state.
       open-valid : stateValid (partState x p (suc r) markOpen v) ≡ true
       unfolding stateValid partState
-      open-valid = within-valid (identity p process) (omega arith) (record { first = omega arith; last = omega arith; own = own-round-ahead })
+      open-valid = within-valid (identity p process) (omega arith) (record { first = omega arith; last = omega arith; own = waits-below x r p v (process .first) waiting })
 
       -- It is not refused when it speaks; what it yields; and what it becomes on frames of the round: in its own round it takes none.
       pub open-spoken : speakRefusal (partBytes x p (suc r) markOpen v) outputRoom ≡ 0

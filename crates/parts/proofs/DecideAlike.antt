@@ -6,15 +6,15 @@ use mathlib.Core.Bool.{true, false}
 use Prim.Native.Nat.{ℕ, zero, suc, _^_, _≤_, _<_}
 use native.Mathlib.Omega.{arith}
 use lib.ListN.{length}
-use Rattle.protocol.specs.Instance.{Instance, faultOf}
+use Rattle.protocol.specs.Instance.{Instance, faultOf, proposalOf}
 use Rattle.protocol.specs.Round.{State, undecided, decided, crashed, stateOf, sentBy, received}
 use Rattle.protocol.specs.Run.{runTo, runOf}
 use Rattle.protocol.specs.WellFormed.{WellFormed}
 use Rattle.protocol.specs.Consensus.{IsProcess, endOf}
-use Rattle.protocol.proofs.Pointwise.{proposalOf, stateAt, state-at}
+use Rattle.protocol.proofs.Pointwise.{stateAt, state-at}
 use Rattle.protocol.proofs.Rounds.{received-below}
 use Rattle.protocol.proofs.History.{heardAt, undecided-crashed, decided-crashed}
-use Rattle.protocol.proofs.Values.{Holds}
+use Rattle.protocol.proofs.Values.{Holds, holds-fitting}
 use Rattle.process.specs.PartState.{stateBytes, stateFrom, markOpen, markDecided}
 use Rattle.process.specs.Frame.{Carried, framesOf}
 use Rattle.process.specs.Start.{startRefusal, startState, startBytes}
@@ -29,7 +29,7 @@ use Rattle.parts.specs.Host.{blank, partsTo, partsOf, endPartOf}
 use Rattle.parts.specs.DecideAlike.{partState, partBytes, Alike, bothOpen, bothOver, bothDecided, bothCrashed, CrashedAlike, DecideAlike, NoneRefused}
 use Rattle.parts.proofs.Places.{length-parts, part-started, part-after}
 use Rattle.parts.proofs.Hearing.{heard-from-one, frames-reaching}
-use Rattle.parts.proofs.Alike.{identity, holds-fitting, open-spoken, open-after, coordinator-yields, others-silent, round-alike}
+use Rattle.parts.proofs.Alike.{identity, open-spoken, open-after, coordinator-yields, others-silent, round-alike}
 
 -- What is sent has a value of four bytes, if the coordinator's has.
 sent-carried : (c : State) → Holds (λ v. v < 2 ^ 32) c → Carried (sentBy c)

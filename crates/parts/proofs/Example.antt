@@ -17,8 +17,8 @@ use Rattle.parts.specs.Hearing.{bytesReaching, letThrough, heardFrom, he
 use Rattle.parts.specs.Host.{blank, startedParts, partAfter, partsAfter, partsTo, partsOf}
 
 -- n = 4, t = 2; process 1 crashes in round 1 after one commit, which goes to process 4.
-unfoldable pub case1 : Instance
-case1 =
+unfoldable pub case1Instance : Instance
+case1Instance =
     record {
       processes = 4;
       resilience = 2;
@@ -27,11 +27,11 @@ case1 =
     }
 
 -- Process 1's part is still in round 1; process 4's decided in round 1 and the others in round 2, all on 10.
-pub case1-parts : partsOf case1
+pub case1-parts : partsOf case1Instance
     ≡ crashedIn 1 (1 ∷ 4 ∷ 2 ∷ 1 ∷ 0 ∷ 0 ∷ 0 ∷ 0 ∷ 10 ∷ [])
     ∷ up (2 ∷ 4 ∷ 2 ∷ 2 ∷ 1 ∷ 0 ∷ 0 ∷ 0 ∷ 10 ∷ [])
     ∷ up (3 ∷ 4 ∷ 2 ∷ 2 ∷ 1 ∷ 0 ∷ 0 ∷ 0 ∷ 10 ∷ [])
     ∷ up (4 ∷ 4 ∷ 2 ∷ 1 ∷ 1 ∷ 0 ∷ 0 ∷ 0 ∷ 10 ∷ [])
     ∷ []
-unfolding case1 number numberFrom bytesOf mapFrom withinLimits faultOf sends receives amongFirst reachAt reachIn reach crashesIn stateBytes stateFrom identityValid roundValid fieldsValid stateValid stateRefusal isOwnRound dataFrame commitFrame framesOf isDataFrame isCommitFrame messagesFrom startRefusal startState startBytes spokenBy speakRefusal speakYields heardBy stateAfter closedOn closeOnHeard closeState isOpen outputRoom yielded bytesReaching letThrough heardFrom heard blank startedParts partAfter partsAfter partsTo partsOf
+unfolding case1Instance number numberFrom bytesOf mapFrom withinLimits faultOf sends receives amongFirst reachAt reachIn reach crashesIn stateBytes stateFrom identityValid roundValid fieldsValid stateValid stateRefusal isOwnRound dataFrame commitFrame framesOf isDataFrame isCommitFrame messagesFrom startRefusal startState startBytes spokenBy speakRefusal speakYields heardBy stateAfter closedOn closeOnHeard closeState isOpen outputRoom yielded bytesReaching letThrough heardFrom heard blank startedParts partAfter partsAfter partsTo partsOf
 case1-parts = refl

@@ -3,67 +3,63 @@
 use mathlib.Core.List.{List, [], map}
 use mathlib.Core.Path.{_≡_, refl, sym, ap, fun-ext, _∙_}
 use Prim.Native.Nat.{ℕ, suc, _-_, _^_, _≤_, _<_}
-use native.Mathlib.Numerals.{unary-clauses}
 use native.Mathlib.Omega.{arith}
 use lib.ListN.{length, getD, length-map, List·getD-map}
-use lib.Seq.{ext-getD}
 use Rattle.protocol.specs.Instance.{Instance}
 use Rattle.protocol.specs.Round.{State, crashed, stateOf}
 use Rattle.protocol.specs.Run.{runTo, runOf, crashesOf}
 use Rattle.protocol.specs.WellFormed.{WellFormed}
 use Rattle.protocol.specs.Consensus.{IsProcess, UniformConsensus, Paired, NoLater, endOf, latestOf}
-use Rattle.protocol.proofs.Pointwise.{state-at, length-states}
-use Rattle.protocol.proofs.Values.{Holds}
+use Rattle.protocol.proofs.Pointwise.{states-ext, state-at, length-states}
+use Rattle.protocol.proofs.Values.{Holds, holds-fitting}
 use Rattle.protocol.proofs.Consensus.{uniform-consensus}
 use Rattle.protocol.proofs.Pair.{no-later}
 use Rattle.process.proofs.RoundTrip.{state-from-bytes}
 use Rattle.parts.specs.Part.{Part, crashedIn, partOf}
 use Rattle.parts.specs.Host.{partsTo, partsOf, endPartOf}
 use Rattle.parts.specs.DecideAlike.{partState, Alike, bothOpen, bothOver, bothDecided, bothCrashed}
-use Rattle.parts.specs.PartEnds.{stateIn, endIn, latestIn}
+use Rattle.parts.specs.PartEnds.{stateByPart, endByPart, latestByParts}
 use Rattle.parts.proofs.Places.{length-parts}
-use Rattle.parts.proofs.Alike.{holds-fitting}
 use Rattle.parts.proofs.DecideAlike.{parts-alike}
 
 -- A part that is like its process says so.
-says-state : (x : Instance) (r p : ℕ) {s : State} {part : Part} → Alike x r p s part → Holds (λ v. v < 2 ^ 32) s → stateIn part ≡ s
-unfolding stateIn Holds partState
+says-state : (x : Instance) (r p : ℕ) {s : State} {part : Part} → Alike x r p s part → Holds (λ v. v < 2 ^ 32) s → stateByPart part ≡ s
+unfolding stateByPart Holds partState
 says-state x r p (bothOpen {v} _) fits = simp (state-from-bytes (partState x p (suc r) 0 v) fits)
 says-state x r p (bothOver {v} _) fits = simp (state-from-bytes (partState x p r 2 v) fits)
 says-state x r p (bothDecided {i} {v}) fits = simp (state-from-bytes (partState x p i 1 v) fits)
 says-state x r p (bothCrashed _) fits = refl
 
 module _ (x : Instance) (formed : WellFormed x) where
-  says : (r p : ℕ) → r ≤ suc (x .resilience) → IsProcess x p → stateIn (partOf (partsTo x r) p) ≡ stateOf (runTo x r .states) p
-  says r p within process =
+  part-says : (r p : ℕ) → r ≤ suc (x .resilience) → IsProcess x p → stateByPart (partOf (partsTo x r) p) ≡ stateOf (runTo x r .states) p
+  part-says r p within process =
       says-state x r p (parts-alike x formed r p within process)
       (rw (state-at x r p (omega arith) (process .first) (omega arith)) (holds-fitting x formed r p))
 
   -- Read by their bytes, the parts are the states of the run after every round.
-  pub parts-read : (r : ℕ) → r ≤ suc (x .resilience) → map stateIn (partsTo x r) ≡ runTo x r .states
-  unfolding partOf stateOf stateIn
+  pub parts-read : (r : ℕ) → r ≤ suc (x .resilience) → map stateByPart (partsTo x r) ≡ runTo x r .states
+  unfolding partOf stateOf stateByPart
   parts-read r within =
-      let as-many : length (map stateIn (partsTo x r)) ≡ length (x .proposals) = length-map (partsTo x r) stateIn ∙ length-parts x r in
-      ext-getD (crashed 0) (map stateIn (partsTo x r)) (runTo x r .states) (as-many ∙ sym (length-states x r))
-      (λ k h. let process : IsProcess x (suc k) = record { first = omega arith; last = omega arith } in
-      List·getD-map stateIn (partsTo x r) k (crashedIn 0 []) ∙ simp unary-clauses at says r (suc k) within process)
+      let as-many : length (map stateByPart (partsTo x r)) ≡ length (x .proposals) = length-map (partsTo x r) stateByPart ∙ length-parts x r in
+      states-ext (length (x .proposals)) (map stateByPart (partsTo x r)) (runTo x r .states) as-many (length-states x r)
+      (λ p h g. List·getD-map stateByPart (partsTo x r) (p - 1) (crashedIn 0 []) ∙ part-says r p within (record { first = h; last = omega arith }))
 
-  ends-read : map stateIn (partsOf x) ≡ runOf x .states
+  ends-read : map stateByPart (partsOf x) ≡ runOf x .states
   unfolding partsOf runOf
   ends-read = parts-read (suc (x .resilience)) (omega arith)
 
   -- Every process ends by its part as in the run.
-  pub ends-alike : endIn x ≡ endOf x
-  unfolding endIn endPartOf partOf endOf stateOf stateIn
-  ends-alike = fun-ext (λ p. sym (List·getD-map stateIn (partsOf x) (p - 1) (crashedIn 0 [])) ∙ ap (λ (states : List State). getD states (p - 1) (crashed 0)) ends-read)
+  pub ends-alike : endByPart x ≡ endOf x
+  unfolding endByPart endPartOf partOf endOf stateOf stateByPart
+  ends-alike = fun-ext (λ p. sym (List·getD-map stateByPart (partsOf x) (p - 1) (crashedIn 0 [])) ∙ ap (λ (states : List State). getD states (p - 1) (crashed 0)) ends-read)
 
-  latest-alike : latestIn x ≡ latestOf x
-  unfolding latestIn latestOf crashesOf
+  latest-alike : latestByParts x ≡ latestOf x
+  unfolding latestByParts latestOf crashesOf
   latest-alike = rw ends-read
 
-  pub parts-consensus : UniformConsensus (latestIn x) x (endIn x)
+  pub parts-consensus : UniformConsensus (latestByParts x) x (endByPart x)
   parts-consensus = rw (latest-alike, ends-alike) (uniform-consensus x formed)
 
 -- More commits let through make no part decide later, or on another value.
-pub parts-no-later : (x y : Instance) → WellFormed x → WellFormed y → Paired x y → NoLater x (endIn x) y (endIn y)
+pub parts-no-later : (x y : Instance) → WellFormed x → WellFormed y → Paired x y → NoLater x (endByPart x) y (endByPart y)
 parts-no-later x y formed formed′ paired = rw (ends-alike x formed, ends-alike y formed′) (no-later x y formed formed′ paired)

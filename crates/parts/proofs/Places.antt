@@ -1,11 +1,10 @@
 -- The host's parts process by process: how many there are, and what becomes of each in a round. Assumes nothing.
-use mathlib.Core.Path.{_≡_, ap, _∙_}
-use Prim.Native.Nat.{ℕ, zero, suc, _+_, _-_, _≤_}
+use mathlib.Core.Path.{_≡_, _∙_}
+use Prim.Native.Nat.{ℕ, zero, suc, _≤_}
 use native.Mathlib.Omega.{arith}
-use lib.ListN.{length, getD}
-use Rattle.general.proofs.Indexed.{length-mapFrom, getD-mapFrom}
-use Rattle.protocol.specs.Instance.{Instance, faultOf}
-use Rattle.protocol.proofs.Pointwise.{proposalOf}
+use lib.ListN.{length}
+use Rattle.general.proofs.Indexed.{length-mapFrom, mapFrom-at}
+use Rattle.protocol.specs.Instance.{Instance, faultOf, proposalOf}
 use Rattle.process.specs.Start.{startBytes}
 use Rattle.parts.specs.Part.{up, partOf}
 use Rattle.parts.specs.Hearing.{heard}
@@ -19,17 +18,10 @@ module _ (x : Instance) where
   length-parts (suc r) = length-mapFrom _ _ (partsTo x r) ∙ length-parts r
 
   module _ (p : ℕ) (first : 1 ≤ p) (last : p ≤ length (x .proposals)) where
-    same-place : 1 + (p - 1) ≡ p
-    same-place = omega arith
-
     pub part-started : partOf (partsTo x 0) p ≡ up (startBytes p (x .processes) (x .resilience) (proposalOf x p) blank)
     unfolding partOf partsTo startedParts proposalOf
-    part-started =
-        getD-mapFrom _ 1 (x .proposals) (p - 1) 0 _ (omega arith)
-        ∙ ap (λ (q : ℕ). up (startBytes q (x .processes) (x .resilience) (getD (x .proposals) (p - 1) 0) blank)) same-place
+    part-started = mapFrom-at _ (x .proposals) p 0 _ first last
 
     pub part-after : (r : ℕ) → partOf (partsTo x (suc r)) p ≡ partAfter (suc r) (faultOf x p) (heard x (suc r) p (partsTo x r)) (partOf (partsTo x r) p)
     unfolding partOf partsTo partsAfter
-    part-after r =
-        getD-mapFrom _ 1 (partsTo x r) (p - 1) _ _ (omega (arith, length-parts r))
-        ∙ ap (λ (q : ℕ). partAfter (suc r) (faultOf x q) (heard x (suc r) q (partsTo x r)) (partOf (partsTo x r) p)) same-place
+    part-after r = mapFrom-at _ (partsTo x r) p _ _ first (omega (arith, length-parts r))

@@ -5,20 +5,20 @@ use mathlib.Core.Bool.{cond}
 use lib.Dec.{eqb}
 use Rattle.protocol.specs.Instance.{Instance}
 use Rattle.protocol.specs.Round.{State, undecided, decided, crashed}
-use Rattle.protocol.specs.Count.{crashCount}
+use Rattle.protocol.specs.CrashCount.{crashCount}
 use Rattle.process.specs.PartState.{stateFrom, markDecided}
 use Rattle.parts.specs.Part.{Part, up, crashedIn}
 use Rattle.parts.specs.Host.{partsOf, endPartOf}
 
 -- What a part says of its process: with mark 01, that it decided in the round and on the value of the bytes; with another mark, that it is undecided with that value.
-unfoldable pub stateIn : Part → State
-stateIn (up b) = cond (eqb (stateFrom b .mark) markDecided) (decided (stateFrom b .round) (stateFrom b .value)) (undecided (stateFrom b .value))
-stateIn (crashedIn round b) = crashed round
+unfoldable pub stateByPart : Part → State
+stateByPart (up b) = cond (eqb (stateFrom b .mark) markDecided) (decided (stateFrom b .round) (stateFrom b .value)) (undecided (stateFrom b .value))
+stateByPart (crashedIn round b) = crashed round
 
 -- The end of process p by its part.
-unfoldable pub endIn : Instance → ℕ → State
-endIn x p = stateIn (endPartOf x p)
+unfoldable pub endByPart : Instance → ℕ → State
+endByPart x p = stateByPart (endPartOf x p)
 
 -- f + 1, where f counts the failure lines that are not idle by the parts.
-unfoldable pub latestIn : Instance → ℕ
-latestIn x = suc (crashCount (x .pattern) (map stateIn (partsOf x)))
+unfoldable pub latestByParts : Instance → ℕ
+latestByParts x = suc (crashCount (x .pattern) (map stateByPart (partsOf x)))

@@ -2,17 +2,18 @@
 -- for one below it; and one for all counts, in which the last speaker is such a process as its own round begins. For well-formed instances. Assumes nothing else.
 use mathlib.Core.Path.{_≡_, refl, subst, _∙_}
 use mathlib.Core.Bool.{Bool, true, false}
-use Prim.Native.Nat.{ℕ, zero, suc, _+_, _-_, _*_, _/_, _≤_, _<_}
+use Prim.Native.Nat.{ℕ, zero, suc, _+_, _-_, _*_, _≤_, _<_}
 use native.Mathlib.Omega.{arith}
 use native.Mathlib.Nat.{le-trans, mul-le-mul-left}
 use Rattle.protocol.specs.Instance.{Instance}
 use Rattle.protocol.specs.Round.{undecided}
-use Rattle.protocol.specs.Count.{isUndecided, speaks}
+use Rattle.protocol.specs.Undecided.{isUndecided}
+use Rattle.protocol.specs.Count.{speaks}
 use Rattle.protocol.specs.Run.{Run, initial, runTo, runOf, crashesOf}
 use Rattle.protocol.specs.WellFormed.{WellFormed}
-use Rattle.protocol.specs.SpeakerBound.{AtMostBySpeakers, SpeakerBound}
+use Rattle.protocol.specs.SpeakerBound.{boundBySpeakers, AtMostBySpeakers, SpeakerBound}
 use Rattle.protocol.proofs.Pointwise.{stateAt}
-use Rattle.protocol.proofs.Ended.{value-of-undecided}
+use Rattle.protocol.proofs.Undecided.{value-of-undecided}
 use Rattle.protocol.proofs.Counts.{speakers-le, data-in-le, commits-in-le}
 use Rattle.protocol.proofs.History.{undecided-earlier}
 use Rattle.protocol.proofs.Termination.{waits-for-crashes}
@@ -63,6 +64,11 @@ total estimates commits (suc j) n h e c =
     let before : suc j - 1 ≡ j = omega arith in
     let others : 2 * n - suc j - 1 ≡ 2 * (n - suc j) + j = omega arith in
     rw (before, others) (total-at estimates commits j (n - suc j) (subst (λ (m : ℕ). 2 * estimates + suc j * suc (suc j) ≤ 2 * (suc j * m)) split e) c)
+
+-- In document 01's own form: k(k - 1) is even.
+as-stated : (n k messages : ℕ) → AtMostBySpeakers n k messages → messages ≤ boundBySpeakers n k
+unfolding AtMostBySpeakers
+as-stated n k messages h = omega arith
 
 module _ (x : Instance) (formed : WellFormed x) where
   -- The commits of m rounds are for processes above one that waits after them.
@@ -118,9 +124,5 @@ unfolding runOf
 speaker-bound x formed =
     let last : ℕ = suc (x .resilience) in
     let end = bounded x formed last (omega arith) in
-    record { speakers = end .speakers; messages = total _ _ _ _ (omega (arith, speakers-le x last)) (end .estimates) (end .commits) }
-
--- The second half in document 01's own form. (k(k - 1) is even, and nothing is cut off at 0.)
-pub messages-at-most : (x : Instance) → WellFormed x → let k : ℕ = runOf x .speakers in runOf x .dataSent + runOf x .commitsSent ≤ k * (2 * x .processes - k - 1) - k * (k - 1) / 2
-unfolding AtMostBySpeakers
-messages-at-most x formed = omega (arith, speaker-bound x formed .messages)
+    let messages = total _ _ _ _ (omega (arith, speakers-le x last)) (end .estimates) (end .commits) in
+    record { speakers = end .speakers; messagesAtMost = as-stated _ _ _ messages; messages = messages }

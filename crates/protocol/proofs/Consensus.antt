@@ -1,39 +1,20 @@
 -- Demand 3, first half, about every well-formed instance: the coordinator protocol solves uniform consensus, and none decides after round f + 1. Assumes nothing else.
-use mathlib.Core.Path.{_≡_, refl, sym, _∙_}
-use mathlib.Core.Bool.{true, false}
-use Prim.Native.Nat.{ℕ}
-use native.Mathlib.Omega.{arith}
-use borrow.Author.Tests.{eqb-true}
-use Rattle.protocol.specs.Instance.{Instance, Fault, correct, crashes, CrashPoint, faultOf}
-use Rattle.protocol.specs.Round.{State, undecided, decided, crashed, crashesIn}
+use mathlib.Core.Path.{sym, _∙_}
+use Rattle.protocol.specs.Instance.{Instance, faultOf}
 use Rattle.protocol.specs.WellFormed.{WellFormed}
-use Rattle.protocol.specs.Consensus.{IsProcess, Agreement, CrashesAsSaid, CrashesNoOther, UniformConsensus, endOf, latestOf}
-use Rattle.protocol.proofs.CrashCount.{hasCrashed, crashed-is-one, not-idle-crashed}
+use Rattle.protocol.specs.Consensus.{Agreement, CrashesAsSaid, CrashesNoOther, UniformConsensus, endOf, latestOf}
+use Rattle.protocol.proofs.CrashCount.{crash-round, crashed-is-one, not-idle-crashed}
 use Rattle.protocol.proofs.Ends.{end-at, decided-at}
-use Rattle.protocol.proofs.Faults.{crashed-by-fault}
+use Rattle.protocol.proofs.Faults.{struck-in, crashed-by-fault}
 use Rattle.protocol.proofs.Locking.{agreement-at}
 use Rattle.protocol.proofs.Validity.{decides-proposed}
 use Rattle.protocol.proofs.Termination.{terminates, decides-early}
-
--- A state that counts as crashed is one.
-crash-round : (s : State) → hasCrashed s ≡ 1 → (r : ℕ) × (s ≡ crashed r)
-unfolding hasCrashed
-crash-round (undecided v) h = absurd (let z : ⊥ = omega arith in z)
-crash-round (decided r v) h = absurd (let z : ⊥ = omega arith in z)
-crash-round (crashed r) h = (r, refl)
-
--- A fault that strikes in round r is a crash in round r.
-struck-in : (r : ℕ) (fault : Fault) → crashesIn r fault ≡ true → (point : CrashPoint) × (fault ≡ crashes r point)
-unfolding crashesIn
-struck-in r correct h = absurd (let z : _≡_ {A = ℕ} 0 1 = cc in let w : ⊥ = omega arith in w)
-struck-in r (crashes round point) h = (point, let same : round ≡ r = eqb-true round r h in rw same)
 
 module _ (x : Instance) (formed : WellFormed x) where
   agrees : Agreement x (endOf x)
   unfolding Agreement
   agrees p q r s v w d e =
-      agreement-at x formed _ p q r s v w (d .process .first) (d .process .last) (e .process .first) (e .process .last) (omega arith)
-      (decided-at x formed d) (decided-at x formed e)
+      agreement-at x _ p q r s v w (d .process .first) (e .process .first) (decided-at x formed d) (decided-at x formed e)
 
   crashes-as-said : CrashesAsSaid x (endOf x)
   unfolding CrashesAsSaid

@@ -4,12 +4,12 @@ use mathlib.Core.Path.{_≡_, refl, subst, ap}
 use mathlib.Core.Bool.{false}
 use Prim.Native.Nat.{ℕ, zero, suc, _≤_, _<_}
 use native.Mathlib.Omega.{arith}
+use native.Mathlib.Nat.{lt-of-not-le}
 use Rattle.protocol.specs.Message.{Messages, nothing, estimate, estimateAndCommit, all}
 use Rattle.protocol.specs.Transition.{receives}
 use Rattle.protocol.specs.Instance.{Instance, Fault, faultOf}
 use Rattle.protocol.specs.Delivery.{reachIn}
 use Rattle.protocol.specs.Round.{State, undecided, decided, crashed, crashesIn, afterOutcome}
-use Rattle.protocol.specs.WellFormed.{WellFormed}
 use Rattle.protocol.proofs.Pointwise.{stateAt}
 use Rattle.protocol.proofs.Rounds.{Hears, hears-commit, received-commit, Becomes, staysDecided, staysCrashed, crashing, coordinates, listens}
 use Rattle.protocol.proofs.Delivery.{reach-up, reach-upward}
@@ -107,18 +107,21 @@ module _ (x : Instance) where
       by-state before (crashed j) b = decided-crashed _ i v j d (crashed-later x r (suc r) k j (omega arith) b)
 
   -- No process is undecided once its own round is over.
-  pub own-round-over : (r p v : ℕ) → 1 ≤ p → p ≤ r → stateAt x r p ≡ undecided v → ⊥
+  own-round-over : (r p v : ℕ) → 1 ≤ p → p ≤ r → stateAt x r p ≡ undecided v → ⊥
   own-round-over r zero v one h e = let z : ⊥ = omega arith in z
   own-round-over r (suc k) v one h e =
       let (w, f) = undecided-earlier x (suc k) r (suc k) v h e in
       coordinator-ends-wait (suc k) (suc k) _ w refl _ _ _ (becomes-at x k (suc k)) f
 
--- If a process above k is up and undecided after round k, coordinator k has crashed.
-pub coordinator-crashed : (x : Instance) → WellFormed x → (k p v : ℕ) → 1 ≤ k → k ≤ suc (x .resilience) → k < p → p ≤ x .processes
-    → stateAt x k p ≡ undecided v → (j : ℕ) × (stateAt x k k ≡ crashed j)
-coordinator-crashed x _ k p v one _ h _ e = by-state (stateAt x k k) refl
-  where
-    by-state : (s : State) → stateAt x k k ≡ s → (j : ℕ) × (stateAt x k k ≡ crashed j)
-    by-state (undecided u) b = absurd (own-round-over x k k u one (omega arith) b)
-    by-state (decided i u) b = absurd (decided-above x k k p i u v h b e)
-    by-state (crashed j) b = (j, b)
+  -- A process that is undecided has its own round ahead of it.
+  pub waits-below : (r p v : ℕ) → 1 ≤ p → stateAt x r p ≡ undecided v → r < p
+  waits-below r p v one e = lt-of-not-le (λ (over : p ≤ r). own-round-over r p v one over e)
+
+  -- If a process above k is up and undecided after round k, coordinator k has crashed.
+  pub coordinator-crashed : (k p v : ℕ) → 1 ≤ k → k < p → stateAt x k p ≡ undecided v → (j : ℕ) × (stateAt x k k ≡ crashed j)
+  coordinator-crashed k p v one h e = by-state (stateAt x k k) refl
+    where
+      by-state : (s : State) → stateAt x k k ≡ s → (j : ℕ) × (stateAt x k k ≡ crashed j)
+      by-state (undecided u) b = absurd (own-round-over k k u one (omega arith) b)
+      by-state (decided i u) b = absurd (decided-above k k p i u v h b e)
+      by-state (crashed j) b = (j, b)

@@ -1,29 +1,23 @@
 -- Bounds of what a run counts, so that it fits the numbers and the bytes that hold it: the rounds and the speakers of r rounds are at most r,
--- round r sends at most n - r messages of each kind, and at most t processes crash. For well-formed instances where it says so. Assumes nothing else.
+-- round r sends at most n - r messages of each kind; and all counts of a run, f too (CrashCount), fit a result's last line. For well-formed instances where it says so. Assumes nothing else.
 use mathlib.Core.List.{List, [], _∷_, map}
 use mathlib.Core.Path.{_≡_, refl}
-use mathlib.Core.Bool.{Bool, true, false, cond}
+use mathlib.Core.Bool.{true}
 use Prim.Native.Nat.{ℕ, zero, suc, _-_, _*_, _≤_, _<_}
 use native.Mathlib.Omega.{arith}
 use native.Mathlib.Nat.{le-refl, le-trans}
 use native.Mathlib.Decide.{le-ind}
 use lib.Dec.{eqb}
 use lib.ListN.{length}
+use Rattle.general.proofs.Tests.{cond-le, le-cond}
+use Rattle.general.proofs.Bits.{size-above}
 use Rattle.protocol.specs.Instance.{Instance, Fault, correct, crashes, CrashPoint, beforeSending, duringData, duringCommits, faultOf}
 use Rattle.protocol.specs.Round.{State, undecided}
-use Rattle.protocol.specs.Count.{isUndecided, anyUndecided, speaks, dataAt, commitsAt, countIn, dataIn, commitsIn, isIdle, countsAsCrash, crashCount}
+use Rattle.protocol.specs.Undecided.{isUndecided, anyUndecided}
+use Rattle.protocol.specs.Count.{speaks, dataAt, commitsAt, countIn, dataIn, commitsIn}
 use Rattle.protocol.specs.Run.{initial, withRound, runTo, runOf, crashesOf}
-use Rattle.protocol.specs.WellFormed.{WellFormed, PointAllowed, FaultAllowed, faultCount}
-use Rattle.protocol.proofs.SetSize.{size-above}
-
--- A choice of two numbers is at most what both are.
-pub cond-le : (b : Bool) (k l m : ℕ) → k ≤ m → l ≤ m → cond b k l ≤ m
-cond-le true k l m h g = h
-cond-le false k l m h g = g
-
-pub le-cond : (b : Bool) (k l m : ℕ) → m ≤ k → m ≤ l → m ≤ cond b k l
-le-cond true k l m h g = h
-le-cond false k l m h g = g
+use Rattle.protocol.specs.WellFormed.{WellFormed, PointAllowed, FaultAllowed}
+use Rattle.protocol.proofs.CrashCount.{crashes-le}
 
 pub rounds-le : (x : Instance) (r : ℕ) → runTo x r .rounds ≤ r
 unfolding runTo initial withRound
@@ -104,27 +98,6 @@ module _ (x : Instance) (w : WellFormed x) where
   unfolding runTo initial withRound
   commits-sent-le zero h = omega arith
   commits-sent-le (suc r) h = omega (arith, commits-sent-le r (omega arith), commits-in-le (suc r) (runTo x r .states) (omega arith) h)
-
--- A failure line counts once at most.
-counts-once : (round : ℕ) (point : CrashPoint) (s : State) → countsAsCrash (crashes round point) s ≤ 1
-unfolding countsAsCrash
-counts-once round point s = by-test (isIdle round s) refl
-  where
-    by-test : (b : Bool) → isIdle round s ≡ b → countsAsCrash (crashes round point) s ≤ 1
-    by-test true e = rw e (omega arith)
-    by-test false e = rw e (omega arith)
-
--- No more processes crash than have a failure line.
-crash-count-le : (faults : List Fault) (states : List State) → crashCount faults states ≤ faultCount faults
-unfolding crashCount countsAsCrash faultCount
-crash-count-le [] states = omega arith
-crash-count-le (fault ∷ faults) [] = omega arith
-crash-count-le (correct ∷ faults) (s ∷ states) = omega (arith, crash-count-le faults states)
-crash-count-le (crashes round point ∷ faults) (s ∷ states) = omega (arith, crash-count-le faults states, counts-once round point s)
-
-pub crashes-le : (x : Instance) → WellFormed x → crashesOf x ≤ x .resilience
-unfolding crashesOf
-crashes-le x w = le-trans (crash-count-le (x .pattern) (runOf x .states)) (w .few-faults)
 
 -- What the last line of a result has room for: one byte each for the rounds, the crashes and the speakers, two each for the data and the commit messages.
 pub record CountsFit (x : Instance) : Type 0 where

@@ -1,37 +1,56 @@
--- f, the failure lines that are not idle, is the number of processes that end crashed (document 01, 'A round': 'It goes dark undecided exactly when it has a failure line that is not idle').
+-- f, the failure lines that are not idle, is at most t, and it is the number of processes that end crashed (document 01, 'A round': 'It goes dark undecided exactly when it has a failure line that is not idle').
 -- For well-formed instances. Assumes nothing else.
 use mathlib.Core.List.{List, [], _∷_}
 use mathlib.Core.Path.{_≡_, refl, sym, ap₂}
-use mathlib.Core.Bool.{true, false}
+use mathlib.Core.Bool.{Bool, true, false}
 use Prim.Native.Nat.{ℕ, zero, suc, _+_, _≤_, _<_}
+use native.Mathlib.Nat.{le-trans}
 use native.Mathlib.Numerals.{unary-clauses}
 use native.Mathlib.Omega.{arith}
 use lib.ListN.{length, getD}
 use borrow.Author.Tests.{lt-ltb}
 use Rattle.protocol.specs.Instance.{Instance, Fault, correct, crashes, faultOf}
 use Rattle.protocol.specs.Round.{State, undecided, decided, crashed, stateOf, crashesIn}
-use Rattle.protocol.specs.Count.{isIdle, countsAsCrash, crashCount}
+use Rattle.protocol.specs.CrashCount.{isIdle, countsAsCrash, crashCount, hasCrashed, crashedCount}
 use Rattle.protocol.specs.Run.{runOf, crashesOf}
-use Rattle.protocol.specs.WellFormed.{WellFormed, FaultAllowed}
+use Rattle.protocol.specs.WellFormed.{WellFormed, FaultAllowed, faultCount}
 use Rattle.protocol.specs.Consensus.{IsProcess, endOf}
 use Rattle.protocol.proofs.Pointwise.{stateAt}
 use Rattle.protocol.proofs.Ends.{states-at-end, end-at}
 use Rattle.protocol.proofs.Faults.{crashed-by-fault, undecided-before-fault, decided-before-fault}
 
--- 1 for a process that has crashed.
-unfoldable pub hasCrashed : State → ℕ
-hasCrashed (undecided v) = 0
-hasCrashed (decided round v) = 0
-hasCrashed (crashed round) = 1
+-- A failure line counts once at most.
+pub counts-once : (fault : Fault) (s : State) → countsAsCrash fault s ≤ 1
+unfolding countsAsCrash
+counts-once correct s = omega arith
+counts-once (crashes round point) s = by-test (isIdle round s) refl
+  where
+    by-test : (b : Bool) → isIdle round s ≡ b → countsAsCrash (crashes round point) s ≤ 1
+    by-test true e = rw e (omega arith)
+    by-test false e = rw e (omega arith)
+
+-- No more processes crash than have a failure line.
+crash-count-le : (faults : List Fault) (states : List State) → crashCount faults states ≤ faultCount faults
+unfolding crashCount countsAsCrash faultCount
+crash-count-le [] states = omega arith
+crash-count-le (fault ∷ faults) [] = omega arith
+crash-count-le (correct ∷ faults) (s ∷ states) = omega (arith, crash-count-le faults states)
+crash-count-le (crashes round point ∷ faults) (s ∷ states) = omega (arith, crash-count-le faults states, counts-once (crashes round point) s)
+
+pub crashes-le : (x : Instance) → WellFormed x → crashesOf x ≤ x .resilience
+unfolding crashesOf
+crashes-le x w = le-trans (crash-count-le (x .pattern) (runOf x .states)) (w .few-faults)
 
 pub crashed-is-one : (s : State) (j : ℕ) → s ≡ crashed j → hasCrashed s ≡ 1
 unfolding hasCrashed
 crashed-is-one s j e = rw e
 
--- How many processes have crashed.
-unfoldable pub crashedCount : List State → ℕ
-crashedCount [] = 0
-crashedCount (s ∷ states) = hasCrashed s + crashedCount states
+-- A state that counts as crashed is one.
+pub crash-round : (s : State) → hasCrashed s ≡ 1 → (r : ℕ) × (s ≡ crashed r)
+unfolding hasCrashed
+crash-round (undecided v) h = absurd (let z : ⊥ = omega arith in z)
+crash-round (decided r v) h = absurd (let z : ⊥ = omega arith in z)
+crash-round (crashed r) h = (r, refl)
 
 -- The failure lines that are not idle are the crashed processes, if they are so process by process.
 count-by-process : (faults : List Fault) (states : List State) → length faults ≡ length states

@@ -4,15 +4,21 @@ use mathlib.Core.Bool.{true, false}
 use Prim.Native.Nat.{ℕ, zero, suc, _≤_, _<_}
 use native.Mathlib.Omega.{arith}
 use native.Mathlib.Nat.{lt-of-not-le}
-use borrow.Author.Tests.{eq-eqb}
+use borrow.Author.Tests.{eq-eqb, eqb-true}
 use Rattle.protocol.specs.Message.{Messages}
 use Rattle.protocol.specs.Transition.{Outcome, continues, decides, receives}
-use Rattle.protocol.specs.Instance.{Instance, Fault, crashes, CrashPoint, faultOf}
+use Rattle.protocol.specs.Instance.{Instance, Fault, correct, crashes, CrashPoint, faultOf}
 use Rattle.protocol.specs.Round.{State, undecided, decided, crashed, crashesIn, afterOutcome}
 use Rattle.protocol.proofs.Pointwise.{stateAt}
 use Rattle.protocol.proofs.Rounds.{Becomes, staysDecided, staysCrashed, crashing, coordinates, listens, after-crashing}
 use Rattle.protocol.proofs.History.{becomes-at, undecided-crashed, decided-crashed, crashed-later, undecided-earlier}
 use Rattle.protocol.proofs.Coordinator.{decided-since}
+
+-- A fault that strikes in round r is a crash in round r.
+pub struck-in : (r : ℕ) (fault : Fault) → crashesIn r fault ≡ true → (point : CrashPoint) × (fault ≡ crashes r point)
+unfolding crashesIn
+struck-in r correct h = absurd (let z : _≡_ {A = ℕ} 0 1 = cc in let w : ⊥ = omega arith in w)
+struck-in r (crashes round point) h = (point, let same : round ≡ r = eqb-true round r h in rw same)
 
 -- No outcome is a crash.
 outcome-up : (r j : ℕ) (o : Outcome) → afterOutcome r o ≡ crashed j → ⊥

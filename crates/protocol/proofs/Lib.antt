@@ -1,4 +1,5 @@
 pub mod Pointwise
+pub mod Undecided
 pub mod Ended
 pub mod Rounds
 pub mod Delivery
@@ -7,16 +8,16 @@ pub mod Coordinator
 pub mod Values
 pub mod Locking
 pub mod Faults
-pub mod SetSize
-pub mod Counts
 pub mod Ends
 pub mod CrashCount
+pub mod Counts
 pub mod Termination
 pub mod Validity
 pub mod Consensus
 pub mod PairRelation
 pub mod PairRound
 pub mod Pair
+pub mod SameEnds
 pub mod Settled
 pub mod Speakers
 pub mod Bound

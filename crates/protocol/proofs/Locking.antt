@@ -1,20 +1,19 @@
 -- Uniform agreement (document 001, section 3.3, Lemma 2). The first round whose coordinator sends all its data fixes the value: before it nobody has decided,
 -- after it every process that has not crashed holds that value. Assumes nothing.
 use mathlib.Core.Logic.{_⊎_, inl, inr}
-use mathlib.Core.Path.{_≡_, refl, sym, ap, _∙_}
+use mathlib.Core.Path.{_≡_, refl, sym, subst, ap}
 use Prim.Native.Nat.{ℕ, zero, suc, _≤_, _<_}
 use native.Mathlib.Omega.{arith}
 use Rattle.protocol.specs.Message.{Messages}
 use Rattle.protocol.specs.Transition.{receives}
 use Rattle.protocol.specs.Instance.{Instance, Fault, faultOf}
 use Rattle.protocol.specs.Round.{State, undecided, decided, crashed, afterOutcome}
-use Rattle.protocol.specs.WellFormed.{WellFormed}
 use Rattle.protocol.proofs.Pointwise.{stateAt}
 use Rattle.protocol.proofs.Rounds.{Hears, below, fromDecided, fromCrashed, unreached, dataAlone, dataAndCommit, Becomes, staysDecided, staysCrashed, crashing, coordinates, listens}
 use Rattle.protocol.proofs.Delivery.{NoCommit, AllData, no-commit-or-all-data}
 use Rattle.protocol.proofs.History.{hears-at, becomes-at, undecided-decided, undecided-crashed, decided-crashed, crashed-later}
 use Rattle.protocol.proofs.Values.{Holds, holds-decided, holds-after-round}
-use Rattle.protocol.proofs.Coordinator.{decides-on, own-round-over}
+use Rattle.protocol.proofs.Coordinator.{decides-on, waits-below}
 
 -- After r rounds nobody has decided.
 unfoldable pub NoneDecided : Instance → ℕ → Type 0
@@ -61,7 +60,7 @@ module _ (x : Instance) (r : ℕ) where
   unfolding NoneDecided Locked
   becomes-locked u fresh from sent p one =
       lock-case _ _ p _ _ u _ _ _ _ (hears-at x r p) (becomes-at x r p) sent from (fresh p)
-      (λ v h e. own-round-over x r p v one (omega arith) e) (λ h. ap (stateAt x r) h)
+      (λ v h e. let z : ⊥ = omega (arith, waits-below x r p v one e) in z) (λ h. ap (stateAt x r) h)
 
   open-or-locked-step : NoneDecided x r ⊎ ((v : ℕ) × Locked x r v) → NoneDecided x (suc r) ⊎ ((v : ℕ) × Locked x (suc r) v)
   open-or-locked-step (inr (v, h)) = inr (v, stays-locked v h)
@@ -85,16 +84,19 @@ module _ (x : Instance) where
   open-or-locked (suc r) = open-or-locked-step x r (open-or-locked r)
 
   -- A process that has decided holds the value that is fixed.
-  pub locked-value : (r u p i v : ℕ) → Locked x r u → 1 ≤ p → stateAt x r p ≡ decided i v → v ≡ u
+  locked-value : (r u p i v : ℕ) → Locked x r u → 1 ≤ p → stateAt x r p ≡ decided i v → v ≡ u
   unfolding Locked
   locked-value r u p i v h one d = holds-decided (λ w. w ≡ u) _ i v d (h p one)
 
--- All processes that have decided after r rounds have decided one value.
-pub agreement-at : (x : Instance) → WellFormed x → (r p q a b v w : ℕ) → 1 ≤ p → p ≤ x .processes → 1 ≤ q → q ≤ x .processes → r ≤ suc (x .resilience)
-    → stateAt x r p ≡ decided a v → stateAt x r q ≡ decided b w → v ≡ w
-unfolding NoneDecided
-agreement-at x _ r p q a b v w one _ one′ _ _ d e = by-lock (open-or-locked x r)
-  where
-    by-lock : NoneDecided x r ⊎ ((u : ℕ) × Locked x r u) → v ≡ w
-    by-lock (inl fresh) = absurd (fresh p a v d)
-    by-lock (inr (u, h)) = locked-value x r u p a v h one d ∙ sym (locked-value x r u q b w h one′ e)
+  -- A process that has not crashed holds what another has decided.
+  pub holds-decision : (r p q i v : ℕ) → 1 ≤ p → 1 ≤ q → stateAt x r p ≡ decided i v → Holds (λ w. w ≡ v) (stateAt x r q)
+  unfolding NoneDecided Locked
+  holds-decision r p q i v h g d = by-lock (open-or-locked r)
+    where
+      by-lock : NoneDecided x r ⊎ ((u : ℕ) × Locked x r u) → Holds (λ w. w ≡ v) (stateAt x r q)
+      by-lock (inl fresh) = absurd (fresh p i v d)
+      by-lock (inr (u, holds)) = subst (λ (z : ℕ). Holds (λ w. w ≡ z) (stateAt x r q)) (sym (locked-value r u p i v holds h d)) (holds q g)
+
+  -- All processes that have decided after r rounds have decided one value.
+  pub agreement-at : (r p q a b v w : ℕ) → 1 ≤ p → 1 ≤ q → stateAt x r p ≡ decided a v → stateAt x r q ≡ decided b w → v ≡ w
+  agreement-at r p q a b v w h g d e = sym (holds-decided (λ u. u ≡ v) _ b w e (holds-decision r p q a v h g d))

@@ -1,30 +1,19 @@
 -- Demand 3, second half (`no-later`): with more commits sent, every process decides no later and on the same value (document 01, 'A round', last paragraph).
 -- Both runs are taken side by side, round by round: the states of each process stay related (PairRelation, PairRound). Assumes nothing.
-use mathlib.Core.Logic.{_⊎_, inl, inr}
-use mathlib.Core.Path.{_≡_, refl, sym, subst, _∙_}
+use mathlib.Core.Path.{_≡_, refl, _∙_}
 use Prim.Native.Nat.{ℕ, zero, suc, _≤_}
 use native.Mathlib.Omega.{arith}
-use Rattle.protocol.specs.Instance.{Instance}
+use Rattle.protocol.specs.Instance.{Instance, proposalOf}
 use Rattle.protocol.specs.Round.{State, decided}
 use Rattle.protocol.specs.WellFormed.{WellFormed}
 use Rattle.protocol.specs.Consensus.{IsProcess, endOf, Paired, NoLater}
-use Rattle.protocol.proofs.Pointwise.{proposalOf, stateAt}
+use Rattle.protocol.proofs.Pointwise.{stateAt}
 use Rattle.protocol.proofs.History.{undecided-decided, decided-crashed}
-use Rattle.protocol.proofs.Values.{Holds}
 use Rattle.protocol.proofs.Coordinator.{decided-above}
-use Rattle.protocol.proofs.Locking.{NoneDecided, Locked, open-or-locked, locked-value}
+use Rattle.protocol.proofs.Locking.{holds-decision}
 use Rattle.protocol.proofs.Ends.{end-at, decided-at}
 use Rattle.protocol.proofs.PairRelation.{Related, bothUndecided, decidedInSecond, bothDecided, bothCrashed, crashedInFirst}
 use Rattle.protocol.proofs.PairRound.{round-related}
-
--- A process that has not crashed holds what another has decided.
-holds-decision : (x : Instance) (r p q i v : ℕ) → 1 ≤ p → 1 ≤ q → stateAt x r p ≡ decided i v → Holds (λ w. w ≡ v) (stateAt x r q)
-unfolding NoneDecided Locked
-holds-decision x r p q i v h g d = by-lock (open-or-locked x r)
-  where
-    by-lock : NoneDecided x r ⊎ ((u : ℕ) × Locked x r u) → Holds (λ w. w ≡ v) (stateAt x r q)
-    by-lock (inl fresh) = absurd (fresh p i v d)
-    by-lock (inr (u, holds)) = subst (λ (z : ℕ). Holds (λ w. w ≡ z) (stateAt x r q)) (sym (locked-value x r u p i v holds h d)) (holds q g)
 
 -- Of related states: one decided in the first is decided in the second, on the same value and no later.
 decided-no-later : {r i v : ℕ} {s s′ : State} → Related r s s′ → s ≡ decided i v → (j : ℕ) × (j ≤ i) × (s′ ≡ decided j v)

@@ -15,7 +15,7 @@ use Rattle.protocol.specs.Delivery.{reach}
 use Rattle.protocol.specs.Round.{State, undecided, decided, crashed, sentBy, received, crashesIn, afterOutcome, after}
 use Rattle.protocol.specs.WellFormed.{FaultAllowed}
 use Rattle.protocol.specs.Consensus.{LinePaired}
-use Rattle.protocol.proofs.Rounds.{received-below}
+use Rattle.protocol.proofs.Rounds.{nothing-arrives, received-below}
 use Rattle.protocol.proofs.Values.{Holds}
 use Rattle.protocol.proofs.PairRelation.{Related, bothUndecided, decidedInSecond, bothDecided, bothCrashed, crashedInFirst, CrashRelated, crashAlike, crashInFirst, ReachRelated, reachAlike, commitToo, crash-related, reach-related}
 
@@ -77,12 +77,6 @@ unfolding sentBy sends arriving
 carried-undecided v w e none = carriesNothing
 carried-undecided v w e dataOnly = rw e carriesEstimate
 carried-undecided v w e all = rw e carriesCommit
-
-nothing-arrives : (reached : Reach) → arriving reached nothing ≡ nothing
-unfolding arriving
-nothing-arrives none = refl
-nothing-arrives dataOnly = refl
-nothing-arrives all = refl
 
 module _ (n r p : ℕ) where
   -- What a process hears that is undecided in both, if it is not above a coordinator that is decided in the second.

@@ -1,19 +1,17 @@
 -- The run as a function of the round and the process, which the theorems about whole runs are proved of: no lists, no ranges.
--- One law links it to the run of specs/Run at each process. Assumes nothing.
+-- One law links it to the run of specs/Run at each process; and states that are the same at each process are the same. Assumes nothing.
 use mathlib.Core.List.{List, map}
-use mathlib.Core.Path.{_≡_, refl, sym, ap, _∙_}
-use Prim.Native.Nat.{ℕ, zero, suc, _+_, _-_, _≤_, _<_}
+use mathlib.Core.Path.{_≡_, sym, ap, _∙_}
+use Prim.Native.Nat.{ℕ, zero, suc, _-_, _≤_, _<_}
 use native.Mathlib.Omega.{arith}
 use lib.ListN.{length, getD, length-map, List·getD-map}
-use Rattle.general.proofs.Indexed.{length-mapFrom, getD-mapFrom, getD-inside}
+use lib.Seq.{ext-getD}
+use Rattle.general.proofs.Indexed.{length-mapFrom, mapFrom-at}
+use Rattle.general.proofs.Lists.{getD-inside}
 use Rattle.protocol.specs.Message.{Messages}
-use Rattle.protocol.specs.Instance.{Instance, faultOf}
+use Rattle.protocol.specs.Instance.{Instance, proposalOf, faultOf}
 use Rattle.protocol.specs.Round.{State, undecided, crashed, stateOf, received, after, statesAfter}
-use Rattle.protocol.specs.Run.{Run, initial, withRound, runTo}
-
--- The value that process p proposes.
-unfoldable pub proposalOf : Instance → ℕ → ℕ
-proposalOf x p = getD (x .proposals) (p - 1) 0
+use Rattle.protocol.specs.Run.{initial, withRound, runTo}
 
 -- What process p receives in round r, whose coordinator began it in the state `c`.
 abbrev pub receivedIn : Instance → ℕ → State → ℕ → Messages
@@ -23,6 +21,16 @@ receivedIn x r c p = received (x .processes) r (faultOf x r) c p
 unfoldable pub stateAt : Instance → ℕ → ℕ → State
 stateAt x zero p = undecided (proposalOf x p)
 stateAt x (suc r) p = after (suc r) p (faultOf x p) (receivedIn x (suc r) (stateAt x r (suc r)) p) (stateAt x r p)
+
+-- Lists of states that are the same at each process are the same.
+pub states-ext : (n : ℕ) (l m : List State) → length l ≡ n → length m ≡ n
+    → ((p : ℕ) → 1 ≤ p → p ≤ n → stateOf l p ≡ stateOf m p) → l ≡ m
+unfolding stateOf
+states-ext n l m hl hm same =
+    ext-getD (crashed 0) l m (hl ∙ sym hm)
+    λ i h.
+    let place : suc i - 1 ≡ i = omega arith in
+    ap (λ (k : ℕ). getD l k (crashed 0)) (sym place) ∙ same (suc i) (omega arith) (omega arith) ∙ ap (λ (k : ℕ). getD m k (crashed 0)) place
 
 -- There is a state for each proposal throughout.
 pub length-states : (x : Instance) (r : ℕ) → length (runTo x r .states) ≡ length (x .proposals)
@@ -43,10 +51,7 @@ module _ (x : Instance) where
   pub round-state : (r p : ℕ) (states : List State) → 1 ≤ p → p ≤ length states
       → stateOf (statesAfter x r states) p ≡ after r p (faultOf x p) (receivedIn x r (stateOf states r) p) (stateOf states p)
   unfolding stateOf statesAfter
-  round-state r p states h g =
-      let same : 1 + (p - 1) ≡ p = omega arith in
-      getD-mapFrom _ 1 states (p - 1) (crashed 0) (crashed 0) (omega arith)
-      ∙ ap (λ (q : ℕ). after r q (faultOf x q) (receivedIn x r (stateOf states r) q) (getD states (p - 1) (crashed 0))) same
+  round-state r p states h g = mapFrom-at _ states p (crashed 0) (crashed 0) h g
 
   -- The run after rounds 1 to r, at process p.
   pub state-at : (r p : ℕ) → r ≤ length (x .proposals) → 1 ≤ p → p ≤ length (x .proposals) → stateOf (runTo x r .states) p ≡ stateAt x r p

@@ -3,8 +3,9 @@
 use mathlib.Core.Path.{_≡_, refl, _∙_}
 use mathlib.Core.Bool.{Bool, true, false}
 use Prim.Native.Nat.{ℕ, _≤_, _<_}
-use lib.Dec.{eqb, ltb}
-use borrow.Author.Tests.{eqb-true, eqb-false, lt-ltb, le-ltb, ltb-true, ltb-false}
+use lib.Dec.{eqb}
+use borrow.Author.Tests.{eqb-true, eqb-false, lt-ltb, le-ltb}
+use Rattle.general.proofs.Tests.{by-order}
 use Rattle.protocol.specs.Message.{Messages, nothing, estimate, estimateAndCommit, Reach, none, dataOnly, all, arriving}
 use Rattle.protocol.specs.Instance.{Fault}
 use Rattle.protocol.specs.Transition.{sends, receives}
@@ -31,6 +32,13 @@ module _ (r p : ℕ) (own : Fault) (m : Messages) where
   pub after-up : (v : ℕ) (coordinates : Bool) → crashesIn r own ≡ false → eqb p r ≡ coordinates → after r p own m (undecided v) ≡ afterOutcome r (receives coordinates v m)
   unfolding after
   after-up v coordinates up e = rw (up, e)
+
+-- Where nothing is sent, nothing arrives.
+pub nothing-arrives : (reached : Reach) → arriving reached nothing ≡ nothing
+unfolding arriving
+nothing-arrives none = refl
+nothing-arrives dataOnly = refl
+nothing-arrives all = refl
 
 module _ (n r : ℕ) (fault : Fault) (p : ℕ) where
   -- A process below the coordinator, and the coordinator itself, receive nothing.
@@ -71,11 +79,9 @@ module _ (n r : ℕ) (fault : Fault) (p : ℕ) where
   hears-above h (crashed i) all e = fromCrashed h
 
   pub hears : (c : State) → Hears n r fault p c (received n r fault c p)
-  hears c = by-place (ltb r p) refl
-    where
-      by-place : (b : Bool) → ltb r p ≡ b → Hears n r fault p c (received n r fault c p)
-      by-place true e = let h : r < p = ltb-true r p e in rw (received-above n r fault p c h) (hears-above h c (reachIn n fault r p) refl)
-      by-place false e = let h : p ≤ r = ltb-false r p e in rw (received-below n r fault p c h) (below h)
+  hears c =
+      by-order p r (λ h. rw (received-below n r fault p c h) (below h))
+      (λ h. rw (received-above n r fault p c h) (hears-above h c (reachIn n fault r p) refl))
 
 -- What process p with the fault `own` becomes in round r on receiving the messages: the state before, and the state after.
 pub data Becomes (r p : ℕ) (own : Fault) : Messages → State → State → Type 0 where
@@ -90,12 +96,12 @@ module _ (r p : ℕ) (own : Fault) (m : Messages) where
   stays-up v up true e = rw (after-up r p own m v true up e) (coordinates up (eqb-true p r e))
   stays-up v up false e = rw (after-up r p own m v false up e) (listens up (eqb-false p r e))
 
-  from-undecided : (v : ℕ) (b : Bool) → crashesIn r own ≡ b → Becomes r p own m (undecided v) (after r p own m (undecided v))
-  from-undecided v true e = rw (after-crashing r p own m v e) (crashing e)
-  from-undecided v false e = stays-up v e (eqb p r) refl
+  becomes-undecided : (v : ℕ) (b : Bool) → crashesIn r own ≡ b → Becomes r p own m (undecided v) (after r p own m (undecided v))
+  becomes-undecided v true e = rw (after-crashing r p own m v e) (crashing e)
+  becomes-undecided v false e = stays-up v e (eqb p r) refl
 
   pub becomes : (s : State) → Becomes r p own m s (after r p own m s)
-  becomes (undecided v) = from-undecided v (crashesIn r own) refl
+  becomes (undecided v) = becomes-undecided v (crashesIn r own) refl
   becomes (decided i v) = rw (after-decided r p own m i v) staysDecided
   becomes (crashed i) = rw (after-crashed r p own m i) staysCrashed
 

@@ -18,16 +18,17 @@ use Rattle.protocol.proofs.Ends.{states-at-end, end-at}
 use Rattle.protocol.proofs.Termination.{waits-for-crashes}
 use Rattle.protocol.proofs.Consensus.{uniform-consensus}
 use Rattle.protocol.proofs.Ended.{run-at-rounds}
-use Rattle.protocol.proofs.Counts.{rounds-pos, crashes-le}
+use Rattle.protocol.proofs.Counts.{rounds-pos}
+use Rattle.protocol.proofs.CrashCount.{crashes-le}
 
 -- A process in this state holds value w.
-abbrev Holds : State → ℕ → Type 0
-Holds (undecided v) w = v ≡ w
-Holds (decided round v) w = v ≡ w
-Holds (crashed round) w = ⊥
+abbrev HoldsValue : State → ℕ → Type 0
+HoldsValue (undecided v) w = v ≡ w
+HoldsValue (decided round v) w = v ≡ w
+HoldsValue (crashed round) w = ⊥
 
 -- Where whoever holds a value holds v, all values held are v.
-all-held : (v : ℕ) (states : List State) → ((k w : ℕ) → k < length states → Holds (getD states k (crashed 0)) w → v ≡ w) → allAre v (valuesHeld states) ≡ true
+all-held : (v : ℕ) (states : List State) → ((k w : ℕ) → k < length states → HoldsValue (getD states k (crashed 0)) w → v ≡ w) → allAre v (valuesHeld states) ≡ true
 unfolding allAre valuesHeld
 all-held v [] h = refl
 all-held v (undecided u ∷ states) h = rw (eq-eqb v u (h 0 u (omega arith) refl)) (all-held v states (λ k w g e. h (suc k) w (omega arith) e))
@@ -36,7 +37,7 @@ all-held v (crashed round ∷ states) h = all-held v states (λ k w g e. h (suc 
 
 -- Where any two that hold a value hold the same, one value is held.
 one-value : (states : List State)
-    → ((k l v w : ℕ) → k < length states → l < length states → Holds (getD states k (crashed 0)) v → Holds (getD states l (crashed 0)) w → v ≡ w)
+    → ((k l v w : ℕ) → k < length states → l < length states → HoldsValue (getD states k (crashed 0)) v → HoldsValue (getD states l (crashed 0)) w → v ≡ w)
     → oneValue (valuesHeld states) ≡ true
 unfolding oneValue valuesHeld
 one-value [] h = refl
@@ -51,12 +52,12 @@ module _ (x : Instance) (formed : WellFormed x) where
       omega (arith, waits-for-crashes x formed _ p v (omega arith) process (sym (end-at x formed p process) ∙ e), crashes-le x formed)
 
   -- A value that a process holds at the end is one that it has decided.
-  held-is-decided : (p v : ℕ) (s : State) → IsProcess x p → endOf x p ≡ s → Holds s v → (r : ℕ) × Decides x (endOf x) p r v
+  held-is-decided : (p v : ℕ) (s : State) → IsProcess x p → endOf x p ≡ s → HoldsValue s v → (r : ℕ) × Decides x (endOf x) p r v
   held-is-decided p v (undecided u) process e h = absurd (none-ends-undecided p u process e)
   held-is-decided p v (decided r u) process e h = (r, record { process = process; state = e ∙ ap (λ (a : ℕ). decided r a) h })
   held-is-decided p v (crashed r) process e h = absurd h
 
-  decided-at-place : (k v : ℕ) → k < length (runOf x .states) → Holds (getD (runOf x .states) k (crashed 0)) v → (r : ℕ) × Decides x (endOf x) (suc k) r v
+  decided-at-place : (k v : ℕ) → k < length (runOf x .states) → HoldsValue (getD (runOf x .states) k (crashed 0)) v → (r : ℕ) × Decides x (endOf x) (suc k) r v
   unfolding endOf stateOf
   decided-at-place k v h held =
       let process : IsProcess x (suc k) = omega (arith, states-at-end x formed) in

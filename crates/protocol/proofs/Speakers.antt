@@ -5,13 +5,14 @@ use mathlib.Core.Bool.{Bool, true, false, cond}
 use Prim.Native.Nat.{ℕ, suc, _+_, _-_, _≤_, _<_}
 use native.Mathlib.Omega.{arith}
 use borrow.Author.Tests.{ltb-false, eqb-true, eq-eqb}
-use lib.Dec.{eqb, ltb}
+use lib.Dec.{eqb}
 use lib.ListN.{length}
 use Rattle.protocol.specs.Message.{all, dataOnly}
 use Rattle.protocol.specs.Instance.{Instance, Fault, correct, crashes, CrashPoint, beforeSending, duringData, duringCommits, faultOf}
 use Rattle.protocol.specs.Delivery.{amongFirst, reachAt, reachIn}
 use Rattle.protocol.specs.Round.{undecided}
-use Rattle.protocol.specs.Count.{isUndecided, speaks, commitsAt, countIn, dataIn, commitsIn}
+use Rattle.protocol.specs.Undecided.{isUndecided}
+use Rattle.protocol.specs.Count.{speaks, commitsAt, countIn, dataIn, commitsIn}
 use Rattle.protocol.specs.Run.{Run, withRound, runTo}
 use Rattle.protocol.proofs.Pointwise.{stateAt, state-at}
 use Rattle.protocol.proofs.Coordinator.{committed-above}

@@ -3,33 +3,28 @@
 use mathlib.Core.Path.{_≡_, refl, _∙_}
 use Prim.Native.Nat.{ℕ, suc, _≤_, _<_}
 use native.Mathlib.Omega.{arith}
-use native.Mathlib.Nat.{lt-of-not-le}
 use Rattle.protocol.specs.Instance.{Instance}
 use Rattle.protocol.specs.Round.{State, undecided, decided, crashed}
 use Rattle.protocol.specs.Run.{crashesOf}
+use Rattle.protocol.specs.CrashCount.{hasCrashed}
 use Rattle.protocol.specs.WellFormed.{WellFormed}
 use Rattle.protocol.specs.Consensus.{IsProcess, endOf, Decides, Termination, DecidesBy, latestOf}
 use Rattle.protocol.proofs.Pointwise.{stateAt}
 use Rattle.protocol.proofs.History.{undecided-earlier, crashed-later}
-use Rattle.protocol.proofs.Coordinator.{own-round-over, coordinator-crashed, decided-since}
-use Rattle.protocol.proofs.Counts.{crashes-le}
-use Rattle.protocol.proofs.CrashCount.{hasCrashed, crashed-is-one, not-idle-crashed, crashes-at-least}
+use Rattle.protocol.proofs.Coordinator.{waits-below, coordinator-crashed, decided-since}
+use Rattle.protocol.proofs.CrashCount.{crashes-le, crashed-is-one, not-idle-crashed, crashes-at-least}
 use Rattle.protocol.proofs.Ends.{end-at, decided-at}
 
 module _ (x : Instance) (formed : WellFormed x) where
-  -- A process that waits has its own round ahead of it.
-  waits-below : (m p v : ℕ) → 1 ≤ p → stateAt x m p ≡ undecided v → m < p
-  waits-below m p v one e = lt-of-not-le (λ (over : p ≤ m). own-round-over x m p v one over e)
-
   -- If a process waits after m rounds, at least m processes crash: the coordinators so far.
   pub waits-for-crashes : (m p v : ℕ) → m ≤ suc (x .resilience) → IsProcess x p → stateAt x m p ≡ undecided v → m ≤ crashesOf x
   waits-for-crashes m p v h process e = crashes-at-least x formed m (omega arith) ended
     where
       ended : (k : ℕ) → 1 ≤ k → k ≤ m → hasCrashed (endOf x k) ≡ 1
       ended k first within =
-          let above : m < p = waits-below m p v (process .first) e in
+          let above : m < p = waits-below x m p v (process .first) e in
           let (w, d) = undecided-earlier x k m p v within e in
-          let (j, c) = coordinator-crashed x formed k p w first (omega arith) (omega arith) (process .last) d in
+          let (j, c) = coordinator-crashed x k p w first (omega arith) d in
           let coordinator : IsProcess x k = record { first = first; last = omega arith } in
           crashed-is-one _ j (end-at x formed k coordinator ∙ crashed-later x k _ k j (omega arith) c)
 

@@ -2,10 +2,10 @@
 use mathlib.Core.Path.{_≡_, refl}
 use Prim.Native.Nat.{ℕ, zero, suc, _≤_}
 use native.Mathlib.Omega.{arith}
-use Rattle.protocol.specs.Instance.{Instance}
+use Rattle.protocol.specs.Instance.{Instance, proposalOf}
 use Rattle.protocol.specs.WellFormed.{WellFormed}
 use Rattle.protocol.specs.Consensus.{IsProcess, Validity, endOf}
-use Rattle.protocol.proofs.Pointwise.{stateAt, proposalOf}
+use Rattle.protocol.proofs.Pointwise.{stateAt}
 use Rattle.protocol.proofs.Values.{Holds, holds-decided, holds-after-round}
 use Rattle.protocol.proofs.Ends.{decided-at}
 

@@ -1,10 +1,11 @@
--- The values that processes hold come from the coordinators: what is true of the coordinator's value and of a process's own is true of that process's value after the round. Assumes nothing.
+-- The values that processes hold come from the coordinators: what is true of the coordinator's value and of a process's own is true of that process's value after the round. So every value fits four bytes, in well-formed instances. Assumes nothing else.
 use mathlib.Core.Path.{_≡_, subst}
-use Prim.Native.Nat.{ℕ, suc}
+use Prim.Native.Nat.{ℕ, zero, suc, _^_, _<_}
 use Rattle.protocol.specs.Message.{Messages, nothing, estimate, estimateAndCommit}
 use Rattle.protocol.specs.Transition.{receives}
-use Rattle.protocol.specs.Instance.{Instance, Fault}
+use Rattle.protocol.specs.Instance.{Instance, Fault, proposalOf}
 use Rattle.protocol.specs.Round.{State, undecided, decided, crashed, afterOutcome}
+use Rattle.protocol.specs.WellFormed.{WellFormed}
 use Rattle.protocol.proofs.Pointwise.{stateAt}
 use Rattle.protocol.proofs.Rounds.{Hears, dataAlone, dataAndCommit, Becomes, staysDecided, staysCrashed, crashing, coordinates, listens}
 use Rattle.protocol.proofs.History.{hears-at, becomes-at}
@@ -33,3 +34,9 @@ module _ (P : ℕ → Type 0) where
 
   pub holds-after-round : (x : Instance) (r p : ℕ) → Holds P (stateAt x r (suc r)) → Holds P (stateAt x r p) → Holds P (stateAt x (suc r) p)
   holds-after-round x r p g h = holds-case _ _ p _ _ _ _ _ _ (hears-at x r p) (becomes-at x r p) g h
+
+-- Every value held has four bytes.
+pub holds-fitting : (x : Instance) → WellFormed x → (r p : ℕ) → Holds (λ v. v < 2 ^ 32) (stateAt x r p)
+unfolding stateAt Holds proposalOf
+holds-fitting x formed zero p = formed .values-fit _
+holds-fitting x formed (suc r) p = holds-after-round _ x r p (holds-fitting x formed r (suc r)) (holds-fitting x formed r p)

@@ -2,11 +2,11 @@
 -- The claims are about how the processes of an instance end, by whatever protocol: `ends` gives the end of each process.
 use mathlib.Core.List.{List}
 use mathlib.Core.Path.{_≡_}
-use Prim.Native.Nat.{ℕ, suc, _-_, _≤_}
-use lib.ListN.{getD}
-use Rattle.protocol.specs.Instance.{Instance, Fault, correct, crashes, CrashPoint, duringCommits, faultOf}
+use Prim.Native.Nat.{ℕ, suc, _≤_}
+use Rattle.general.specs.Indexed.{mapFrom}
+use Rattle.protocol.specs.Instance.{Instance, Fault, correct, crashes, CrashPoint, duringCommits, proposalOf, faultOf}
 use Rattle.protocol.specs.Round.{State, decided, crashed, stateOf}
-use Rattle.protocol.specs.Count.{countsAsCrash}
+use Rattle.protocol.specs.CrashCount.{countsAsCrash, crashCount}
 use Rattle.protocol.specs.Run.{runOf, crashesOf}
 
 -- p is a process of the instance.
@@ -30,7 +30,7 @@ Agreement x ends = (p q r s v w : ℕ) → Decides x ends p r v → Decides x en
 
 -- Validity: a decided value is one that a process proposed.
 unfoldable pub Validity : Instance → (ℕ → State) → Type 0
-Validity x ends = (p r v : ℕ) → Decides x ends p r v → (q : ℕ) × IsProcess x q × (getD (x .proposals) (q - 1) 0 ≡ v)
+Validity x ends = (p r v : ℕ) → Decides x ends p r v → (q : ℕ) × IsProcess x q × (proposalOf x q ≡ v)
 
 -- Termination: every process that does not crash undecided decides.
 unfoldable pub Termination : Instance → (ℕ → State) → Type 0
@@ -56,6 +56,14 @@ pub record UniformConsensus (latest : ℕ) (x : Instance) (ends : ℕ → State)
   pub earlyDecision : DecidesBy latest x ends
   pub crashesAsSaid : CrashesAsSaid x ends
   pub crashesNoOther : CrashesNoOther x ends
+
+-- The ends of all processes in order: one for each entry of the failure pattern.
+unfoldable pub endsOf : Instance → (ℕ → State) → List State
+endsOf x ends = mapFrom (λ p fault. ends p) 1 (x .pattern)
+
+-- f counts the failure lines that are not idle (document 01, 'A round': 'It goes dark undecided exactly when it has a failure line that is not idle, and f counts these lines').
+unfoldable pub CountsCrashes : ℕ → Instance → (ℕ → State) → Type 0
+CountsCrashes f x ends = f ≡ crashCount (x .pattern) (endsOf x ends)
 
 -- The failure lines of one process in two instances: the same (or none in both), or of the commit step with as many commits or more in the second, or of the commit step and missing there.
 pub data LinePaired : Fault → Fault → Type 0 where

@@ -39,5 +39,10 @@ pub record Instance : Type 0 where
   -- the fault of each process
   pub pattern : List Fault
 
+-- The value that process p proposes.
+unfoldable pub proposalOf : Instance → ℕ → ℕ
+proposalOf x p = getD (x .proposals) (p - 1) 0
+
+-- The fault of process p.
 unfoldable pub faultOf : Instance → ℕ → Fault
 faultOf x p = getD (x .pattern) (p - 1) correct

@@ -3,7 +3,9 @@ pub mod Instance
 pub mod Transition
 pub mod Delivery
 pub mod Round
+pub mod Undecided
 pub mod Count
+pub mod CrashCount
 pub mod Run
 pub mod Settling
 pub mod WellFormed

@@ -5,7 +5,9 @@ use Prim.Native.Nat.{ℕ, zero, suc, _+_}
 use mathlib.Core.Bool.{cond}
 use Rattle.protocol.specs.Instance.{Instance}
 use Rattle.protocol.specs.Round.{State, undecided, statesAfter}
-use Rattle.protocol.specs.Count.{anyUndecided, speaks, dataIn, commitsIn, crashCount}
+use Rattle.protocol.specs.Undecided.{anyUndecided}
+use Rattle.protocol.specs.Count.{speaks, dataIn, commitsIn}
+use Rattle.protocol.specs.CrashCount.{crashCount}
 
 -- What a run has come to after some rounds.
 pub record Run : Type 0 where

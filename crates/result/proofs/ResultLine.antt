@@ -7,29 +7,29 @@ use native.Mathlib.Numerals.{add-one}
 use borrow.Author.Tests.{ne-eqb}
 use borrow.Rule.Slice.PartMut.{midOf, putMid}
 use lib.ListN.{length, drop, getD, take, length-take, length-drop, length-append}
-use lib.Seq.{take-suc, take-all, take-at, drop-at, drop-drop}
+use lib.Seq.{take-suc, take-all}
 use Rattle.general.specs.BigEndian.{bytesOf}
 use Rattle.general.specs.Indexed.{mapFrom}
 use Rattle.general.proofs.Indexed.{mapFrom-snoc}
 use Rattle.general.proofs.Overwrite.{put-part}
 use Rattle.protocol.specs.Round.{State, undecided, decided, crashed, stateOf}
 use Rattle.protocol.specs.Run.{Run}
-use Rattle.tables.specs.RunReading.{stateFrom}
+use Rattle.tables.specs.RunReading.{stateByEnd}
 use Rattle.result.specs.HexText.{digitOf, hexDigits, hexLine}
 use Rattle.result.specs.ResultLine.{endBytes, processLine, lastLine, joined, resultLines, resultSize, refusalLine}
 
 -- What `process_bytes` returns, by the process's end.
 module _ (line : List ℕ) (p end round v : ℕ) where
-  pub line-undecided : line ≡ 17 ∷ p ∷ 0 ∷ 0 ∷ bytesOf 4 v → end ≡ 0 → line ≡ 17 ∷ p ∷ endBytes (stateFrom end round v)
-  unfolding endBytes stateFrom
+  pub line-undecided : line ≡ 17 ∷ p ∷ 0 ∷ 0 ∷ bytesOf 4 v → end ≡ 0 → line ≡ 17 ∷ p ∷ endBytes (stateByEnd end round v)
+  unfolding endBytes stateByEnd
   line-undecided e h = rw h e
 
-  pub line-decided : line ≡ 17 ∷ p ∷ 1 ∷ round ∷ bytesOf 4 v → end ≡ 1 → line ≡ 17 ∷ p ∷ endBytes (stateFrom end round v)
-  unfolding endBytes stateFrom
+  pub line-decided : line ≡ 17 ∷ p ∷ 1 ∷ round ∷ bytesOf 4 v → end ≡ 1 → line ≡ 17 ∷ p ∷ endBytes (stateByEnd end round v)
+  unfolding endBytes stateByEnd
   line-decided e h = rw h e
 
-  pub line-crashed : line ≡ 17 ∷ p ∷ 2 ∷ round ∷ bytesOf 4 0 → (end ≡ 0 → ⊥) → (end ≡ 1 → ⊥) → line ≡ 17 ∷ p ∷ endBytes (stateFrom end round v)
-  unfolding endBytes stateFrom
+  pub line-crashed : line ≡ 17 ∷ p ∷ 2 ∷ round ∷ bytesOf 4 0 → (end ≡ 0 → ⊥) → (end ≡ 1 → ⊥) → line ≡ 17 ∷ p ∷ endBytes (stateByEnd end round v)
+  unfolding endBytes stateByEnd
   line-crashed e h g = simp (ne-eqb end 0 h, ne-eqb end 1 g) e
 
 pub line-of : (line : List ℕ) (p : ℕ) (s s′ : State) → line ≡ 17 ∷ p ∷ endBytes s → s′ ≡ s → hexLine line ≡ processLine p s′

@@ -5,9 +5,9 @@ ghost use Prim.Native.Nat.{_+_, _*_, _/_, _%_, _≤_, _<_};
 ghost use lib.ListN.{length, set, drop};
 ghost use Rattle.general.specs.BigEndian.{bytesOf};
 ghost use Rattle.general.specs.Indexed.{mapFrom};
-ghost use Rattle.tables.specs.RunReading.{stateFrom, statesIn, runFrom};
+ghost use Rattle.tables.specs.RunReading.{stateByEnd, statesIn, runFrom};
 ghost use Rattle.result.specs.HexText.{digitOf, hexLine};
-ghost use Rattle.result.specs.ResultLine.{endBytes, processLine, lastLine, joined, resultLines, resultSize, refusalLine};
+ghost use Rattle.result.specs.ResultLine.{endBytes, processLine, joined, resultLines, resultSize, refusalLine};
 use tables::RunTable;
 
 // The digit of a value.
@@ -58,7 +58,7 @@ fn value_line(kind: u8, p: u8, end: u8, round: u8, value: u32) -> [u8; 8]
 
 // The bytes of a process's line. (17 is 11 in hexadecimal.)
 fn process_bytes(p: u8, end: u8, round: u8, value: u32) -> [u8; 8]
-    ensures { λ r. ⌜ r ≡ 17 ∷ p ∷ endBytes (stateFrom end round value) ⌝ }
+    ensures { λ r. ⌜ r ≡ 17 ∷ p ∷ endBytes (stateByEnd end round value) ⌝ }
 {
     if end == 0 {
         return value_line(17, p, 0, 0, value);

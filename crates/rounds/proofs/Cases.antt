@@ -7,9 +7,9 @@ use lib.Dec.{eqb}
 use borrow.Author.Tests.{ne-eqb}
 use Rattle.protocol.specs.Instance.{Fault, correct, crashes, CrashPoint, pointFrom}
 use Rattle.protocol.specs.Round.{State, decided, crashed}
-use Rattle.protocol.specs.Count.{isUndecided}
+use Rattle.protocol.specs.Undecided.{isUndecided}
 use Rattle.tables.specs.InstanceReading.{faultFrom}
-use Rattle.tables.specs.RunReading.{stateFrom}
+use Rattle.tables.specs.RunReading.{stateByEnd}
 
 -- The fault of a crash round that is that of this round.
 pub crash-of-round : (r round step set count : ℕ) → 1 ≤ r → round ≡ r → faultFrom round step set count ≡ crashes r (pointFrom step set count)
@@ -29,8 +29,8 @@ any-fault round step set count P without crash = by-round (eqb round 0)
 
 -- What holds of each decided and each crashed state holds of the state that an end other than 0 stands for.
 pub any-ended : (end round value : ℕ) (P : State → Type 0) → ((k v : ℕ) → P (decided k v)) → ((k : ℕ) → P (crashed k)) → (end ≡ 0 → ⊥)
-    → P (stateFrom end round value)
-unfolding stateFrom
+    → P (stateByEnd end round value)
+unfolding stateByEnd
 any-ended end round value P one two h = simp ne-eqb (by-end (eqb end 1))
   where
     by-end : (b : Bool) → P (cond b (decided round value) (crashed round))
@@ -38,10 +38,10 @@ any-ended end round value P one two h = simp ne-eqb (by-end (eqb end 1))
     by-end false = two _
 
 -- An end of 0 is that of a process up and undecided.
-pub is-undecided : (end round value : ℕ) → end ≡ 0 → isUndecided (stateFrom end round value) ≡ true
-unfolding isUndecided stateFrom
+pub is-undecided : (end round value : ℕ) → end ≡ 0 → isUndecided (stateByEnd end round value) ≡ true
+unfolding isUndecided stateByEnd
 is-undecided end round value h = rw h
 
-pub not-undecided : (end round value : ℕ) → (end ≡ 0 → ⊥) → isUndecided (stateFrom end round value) ≡ false
+pub not-undecided : (end round value : ℕ) → (end ≡ 0 → ⊥) → isUndecided (stateByEnd end round value) ≡ false
 unfolding isUndecided
 not-undecided end round value h = any-ended end round value (λ (s : State). isUndecided s ≡ false) (λ k v. refl) (λ k. refl) h

@@ -4,11 +4,12 @@ use Prim.Native.Nat.{ℕ, _+_, _-_, _≤_}
 use mathlib.Core.Bool.{Bool, true, false, cond}
 use native.Mathlib.Omega.{arith}
 use lib.ListN.{length}
+use Rattle.general.proofs.Tests.{cond-le}
 use Rattle.protocol.specs.Instance.{CrashPoint, faultOf}
 use Rattle.protocol.specs.Round.{State, stateOf}
-use Rattle.protocol.specs.Count.{isUndecided, anyUndecided, speaks, dataAt, commitsAt, countIn, dataIn, commitsIn}
+use Rattle.protocol.specs.Undecided.{isUndecided, anyUndecided}
+use Rattle.protocol.specs.Count.{speaks, dataAt, commitsAt, countIn, dataIn, commitsIn}
 use Rattle.protocol.specs.Run.{withRound}
-use Rattle.protocol.proofs.Counts.{cond-le}
 use Rattle.tables.specs.declared.InstanceTable.{InstanceTable}
 use Rattle.tables.specs.declared.RunTable.{RunTable}
 use Rattle.tables.specs.InstanceReading.{instanceOf}
@@ -65,7 +66,7 @@ module _ (x : InstanceTable) (run : RunTable) (r : ℕ) (fault : FaultEntry) (c 
       → d ≡ cond (isUndecided (entryState c)) (countIn dataAt (x .n - r) r (entryFault fault)) 0
       → m ≡ cond (isUndecided (entryState c)) (countIn commitsAt (x .n - r) r (entryFault fault)) 0
       → runFrom (x .n) (recounted run k (run .speakers + s) (run .sent + d) (run .commits + m)) ≡ withCounts (instanceOf x) r (runFrom (x .n) run)
-  unfolding runFrom withCounts statesIn stateIn dataIn commitsIn
+  unfolding runFrom withCounts withRound statesIn stateIn dataIn commitsIn
   counts k s d m of-k of-s of-d of-m = rw (of-k, of-s ∙ speaker 1 0, of-d ∙ sent dataAt, of-m ∙ sent commitsAt)
 
 pub both-halves : (x : InstanceTable) (r : ℕ) (run counted next : RunTable) → runFrom (x .n) counted ≡ withCounts (instanceOf x) r (runFrom (x .n) run)

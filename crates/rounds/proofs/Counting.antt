@@ -8,9 +8,11 @@ use borrow.Author.Tests.{eqb-false, eq-eqb, ne-eqb, lt-ltb, le-ltb}
 use Rattle.general.specs.Bits.{ones64}
 use Rattle.protocol.specs.Instance.{Fault, CrashPoint, beforeSending, duringData, duringCommits, pointFrom}
 use Rattle.protocol.specs.Round.{undecided, crashed}
-use Rattle.protocol.specs.Count.{isUndecided, dataAt, commitsAt, countIn, isIdle, countsAsCrash}
+use Rattle.protocol.specs.Undecided.{isUndecided}
+use Rattle.protocol.specs.Count.{dataAt, commitsAt, countIn}
+use Rattle.protocol.specs.CrashCount.{isIdle, countsAsCrash}
 use Rattle.tables.specs.InstanceReading.{faultFrom}
-use Rattle.tables.specs.RunReading.{stateFrom}
+use Rattle.tables.specs.RunReading.{stateByEnd}
 use Rattle.rounds.proofs.Cases.{crash-of-round, any-fault, is-undecided, not-undecided}
 
 -- What a speaker sends in its round r, where `at` counts for a crash point.
@@ -57,28 +59,28 @@ module _ (whole step set count : ℕ) where
 
 -- What is counted of a coordinator that begins its round up and undecided, and of another.
 module _ (end ended value a b : ℕ) where
-  pub of-speaker : end ≡ 0 → (k : ℕ) → k ≡ a → k ≡ cond (isUndecided (stateFrom end ended value)) a b
+  pub of-speaker : end ≡ 0 → (k : ℕ) → k ≡ a → k ≡ cond (isUndecided (stateByEnd end ended value)) a b
   of-speaker h k e = rw (is-undecided end ended value h) e
 
-  pub of-other : (end ≡ 0 → ⊥) → b ≡ cond (isUndecided (stateFrom end ended value)) a b
+  pub of-other : (end ≡ 0 → ⊥) → b ≡ cond (isUndecided (stateByEnd end ended value)) a b
   of-other h = rw (not-undecided end ended value h)
 
 -- 1 for a failure line that is not idle.
 module _ (round step set count end ended value : ℕ) where
-  pub no-line : round ≡ 0 → 0 ≡ countsAsCrash (faultFrom round step set count) (stateFrom end ended value)
+  pub no-line : round ≡ 0 → 0 ≡ countsAsCrash (faultFrom round step set count) (stateByEnd end ended value)
   unfolding countsAsCrash faultFrom
   no-line h = rw h
 
-  pub idle-line : (round ≡ 0 → ⊥) → end ≡ 1 → ended < round → 0 ≡ countsAsCrash (faultFrom round step set count) (stateFrom end ended value)
-  unfolding countsAsCrash faultFrom isIdle stateFrom
+  pub idle-line : (round ≡ 0 → ⊥) → end ≡ 1 → ended < round → 0 ≡ countsAsCrash (faultFrom round step set count) (stateByEnd end ended value)
+  unfolding countsAsCrash faultFrom isIdle stateByEnd
   idle-line g h l = rw h (simp (ne-eqb, lt-ltb))
 
-  pub line-of-decided : (round ≡ 0 → ⊥) → end ≡ 1 → round ≤ ended → 1 ≡ countsAsCrash (faultFrom round step set count) (stateFrom end ended value)
-  unfolding countsAsCrash faultFrom isIdle stateFrom
+  pub line-of-decided : (round ≡ 0 → ⊥) → end ≡ 1 → round ≤ ended → 1 ≡ countsAsCrash (faultFrom round step set count) (stateByEnd end ended value)
+  unfolding countsAsCrash faultFrom isIdle stateByEnd
   line-of-decided g h l = rw h (simp (ne-eqb, le-ltb))
 
-  pub line-of-other : (round ≡ 0 → ⊥) → (end ≡ 1 → ⊥) → 1 ≡ countsAsCrash (faultFrom round step set count) (stateFrom end ended value)
-  unfolding countsAsCrash faultFrom isIdle stateFrom
+  pub line-of-other : (round ≡ 0 → ⊥) → (end ≡ 1 → ⊥) → 1 ≡ countsAsCrash (faultFrom round step set count) (stateByEnd end ended value)
+  unfolding countsAsCrash faultFrom isIdle stateByEnd
   line-of-other g h = simp ne-eqb (by-end (eqb end 0))
     where
       by-end : (b : Bool) → _≡_ {A = ℕ} 1 (cond (isIdle round (cond b (undecided value) (crashed ended))) 0 1)

@@ -5,17 +5,17 @@ use Prim.Native.Nat.{ℕ, suc, _+_, _-_, _≤_, _<_}
 use native.Mathlib.Omega.{arith}
 use lib.ListN.{length, getD, drop, drop-of-length-le}
 use lib.Seq.{drop-cons}
-use Rattle.protocol.specs.Instance.{Fault, correct, crashes, faultOf}
+use Rattle.protocol.specs.Instance.{Fault, correct, faultOf}
 use Rattle.protocol.specs.Round.{State, crashed, stateOf}
-use Rattle.protocol.specs.Count.{isIdle, countsAsCrash, crashCount}
-use Rattle.protocol.proofs.Counts.{cond-le}
+use Rattle.protocol.specs.CrashCount.{countsAsCrash, crashCount}
+use Rattle.protocol.proofs.CrashCount.{counts-once}
 use Rattle.tables.specs.declared.InstanceTable.{InstanceTable}
 use Rattle.tables.specs.declared.RunTable.{RunTable}
 use Rattle.tables.specs.InstanceReading.{instanceOf}
 use Rattle.tables.specs.RunReading.{statesIn}
-use Rattle.tables.proofs.Places.{length-statesIn}
+use Rattle.tables.proofs.Places.{length-pattern, length-statesIn}
 use Rattle.rounds.specs.Entries.{entryOf, faultEntryOf, entryState, entryFault}
-use Rattle.rounds.proofs.Reading.{pattern-length, fault-read, state-read}
+use Rattle.rounds.proofs.Reading.{fault-read, state-read}
 
 -- The faults and the states from process p on.
 abbrev restCount : List Fault → List State → ℕ → ℕ
@@ -29,15 +29,13 @@ count-one faults states p h g k =
     let next : p + 1 - 1 ≡ suc (p - 1) = omega arith in
     rw (next, drop-cons faults (p - 1) correct (omega arith), drop-cons states (p - 1) (crashed 0) (omega arith))
 
-count-none : (faults : List Fault) (states : List State) (p : ℕ) → length faults < p → restCount faults states p ≡ 0
+none-left : (faults : List Fault) (states : List State) (p : ℕ) → length faults < p → restCount faults states p ≡ 0
 unfolding crashCount
-count-none faults states p h = rw (drop-of-length-le faults {i = p - 1} (omega arith))
+none-left faults states p h = rw (drop-of-length-le faults {i = p - 1} (omega arith))
 
--- A failure line counts once at most.
-pub counts-once : (fault : Fault) (s : State) (k : ℕ) → k ≡ countsAsCrash fault s → k ≤ 1
-unfolding countsAsCrash
-counts-once correct s k e = omega arith
-counts-once (crashes round point) s k e = rw e (cond-le (isIdle round s) 0 1 1 (omega arith) (omega arith))
+-- A failure line counts once at most, by the number that the code has for it.
+pub counted-once : (fault : Fault) (s : State) (k : ℕ) → k ≡ countsAsCrash fault s → k ≤ 1
+counted-once fault s k e = rw e (counts-once fault s)
 
 -- f counts the processes below p.
 pub record CountedBelow (x : InstanceTable) (run : RunTable) (f p : ℕ) : Type 0 where
@@ -53,7 +51,7 @@ module _ (x : InstanceTable) (run : RunTable) where
   module _ (faults : length (x .rounds) ≡ 64) (limit : x .n ≤ 64) where
     pub counted-all : (f p : ℕ) → CountedBelow x run f p → x .n < p → f ≡ crashCount (instanceOf x .pattern) (statesIn (x .n) run)
     counted-all f p so-far h =
-        omega (arith, so-far .rest, count-none (instanceOf x .pattern) (statesIn (x .n) run) p (omega (arith, pattern-length x faults limit)))
+        omega (arith, so-far .rest, none-left (instanceOf x .pattern) (statesIn (x .n) run) p (omega (arith, length-pattern x (omega arith))))
 
     -- One process more.
     pub counted-more : length (run .ends) ≡ 64 → (f p k : ℕ) → CountedBelow x run f p → p ≤ x .n
@@ -64,10 +62,10 @@ module _ (x : InstanceTable) (run : RunTable) where
         let its-fault = fault-read x faults limit p _ (omega arith) h refl in
         let its-state = state-read (x .n) run entries limit p _ (omega arith) h refl in
         let counts : k ≡ countsAsCrash (faultOf (instanceOf x) p) (stateOf (statesIn (x .n) run) p) = of-k ∙ rw (its-fault, its-state) in
-        let step = count-one (instanceOf x .pattern) (statesIn (x .n) run) p (omega arith) (omega (arith, pattern-length x faults limit)) (omega arith) in
+        let step = count-one (instanceOf x .pattern) (statesIn (x .n) run) p (omega arith) (omega (arith, length-pattern x (omega arith))) (omega arith) in
         record {
           first = omega arith;
           last = omega arith;
-          at-most = omega (arith, so-far .at-most, counts-once (entryFault (faultEntryOf x p)) (entryState (entryOf run p)) k of-k);
+          at-most = omega (arith, so-far .at-most, counted-once (entryFault (faultEntryOf x p)) (entryState (entryOf run p)) k of-k);
           rest = omega (arith, so-far .rest, counts, step);
         }

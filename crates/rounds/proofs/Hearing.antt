@@ -1,17 +1,18 @@
 -- What a process hears, one law for each answer of the code over plain numbers: its premises are the tests that lead there. Assumes nothing.
-use mathlib.Core.Path.{_≡_, refl}
+use mathlib.Core.Path.{_≡_, refl, sym}
 use Prim.Native.Nat.{ℕ, _+_, _-_, _≤_, _<_}
 use mathlib.Core.Bool.{true, false}
 use native.Mathlib.Omega.{arith}
 use borrow.Author.Tests.{eq-eqb, ne-eqb, lt-ltb, le-ltb}
 use Rattle.general.specs.Bits.{member}
-use Rattle.protocol.specs.Message.{nothing, Reach, none, dataOnly, all, arriving}
+use Rattle.protocol.specs.Message.{nothing, all, arriving}
 use Rattle.protocol.specs.Instance.{Fault, pointFrom}
 use Rattle.protocol.specs.Delivery.{amongFirst, reachAt, reachIn, reach}
 use Rattle.protocol.specs.Round.{State, sentBy, received}
+use Rattle.protocol.proofs.Rounds.{nothing-arrives}
 use Rattle.tables.specs.InstanceReading.{faultFrom}
-use Rattle.tables.specs.RunReading.{stateFrom}
-use Rattle.rounds.specs.Heard.{reachFrom, messagesFrom}
+use Rattle.tables.specs.RunReading.{stateByEnd}
+use Rattle.rounds.specs.Heard.{reachFrom, messagesReaching}
 use Rattle.rounds.proofs.Cases.{crash-of-round, any-fault, any-ended}
 
 -- How far the messages to process p get of a coordinator that crashes at the point of a step, a set and a count.
@@ -53,20 +54,14 @@ module _ (n r round step set count p : ℕ) where
       simp lt-ltb
       (any-fault round step set count (λ (fault : Fault). all ≡ reachIn n fault r p) refl λ point. simp ne-eqb)
 
-nothing-arrives : (far : Reach) → nothing ≡ arriving far nothing
-unfolding arriving
-nothing-arrives none = refl
-nothing-arrives dataOnly = refl
-nothing-arrives all = refl
-
 -- What process p hears.
 module _ (n r : ℕ) (fault : Fault) (end ended value p : ℕ) where
   pub from-undecided : end ≡ 0 → (far : ℕ) → reachFrom far ≡ reach n fault r p
-      → messagesFrom far value ≡ received n r fault (stateFrom end ended value) p
-  unfolding messagesFrom received stateFrom sentBy
+      → messagesReaching far value ≡ received n r fault (stateByEnd end ended value) p
+  unfolding messagesReaching received stateByEnd sentBy
   from-undecided h far k = rw (h, k)
 
-  pub from-other : (end ≡ 0 → ⊥) → messagesFrom 0 value ≡ received n r fault (stateFrom end ended value) p
-  unfolding messagesFrom reachFrom received sentBy arriving
+  pub from-other : (end ≡ 0 → ⊥) → messagesReaching 0 value ≡ received n r fault (stateByEnd end ended value) p
+  unfolding messagesReaching reachFrom received sentBy arriving
   from-other h =
-      any-ended end ended value (λ (c : State). nothing ≡ arriving (reach n fault r p) (sentBy c)) (λ k v. nothing-arrives (reach n fault r p)) (λ k. nothing-arrives (reach n fault r p)) h
+      any-ended end ended value (λ (c : State). nothing ≡ arriving (reach n fault r p) (sentBy c)) (λ k v. sym (nothing-arrives (reach n fault r p))) (λ k. sym (nothing-arrives (reach n fault r p))) h

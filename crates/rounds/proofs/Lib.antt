@@ -1,4 +1,3 @@
-pub mod Ones
 pub mod Cases
 pub mod Hearing
 pub mod Becoming

@@ -2,15 +2,13 @@
 use mathlib.Core.Path.{_≡_, refl, sym, ap, _∙_}
 use Prim.Native.Nat.{ℕ, _≤_, _<_}
 use native.Mathlib.Omega.{arith}
-use lib.ListN.{length, take}
-use lib.Seq.{length-take-le}
-use Rattle.general.proofs.Indexed.{length-mapFrom}
+use lib.ListN.{length}
 use Rattle.protocol.specs.Instance.{faultOf}
 use Rattle.protocol.specs.Round.{stateOf}
 use Rattle.protocol.specs.WellFormed.{WellFormed}
 use Rattle.tables.specs.declared.InstanceTable.{InstanceTable}
 use Rattle.tables.specs.declared.RunTable.{RunTable}
-use Rattle.tables.specs.InstanceReading.{faultIn, instanceOf}
+use Rattle.tables.specs.InstanceReading.{instanceOf}
 use Rattle.tables.specs.RunReading.{statesIn}
 use Rattle.tables.proofs.Places.{fault-at, state-in}
 use Rattle.rounds.specs.declared.Entry.{Entry}
@@ -31,10 +29,6 @@ unfolding instanceOf
 limits x w = (w .some-process, w .at-most-64, w .fewer-crashes)
 
 module _ (x : InstanceTable) (faults : length (x .rounds) ≡ 64) (limit : x .n ≤ 64) where
-  pub pattern-length : length (instanceOf x .pattern) ≡ x .n
-  unfolding instanceOf
-  pattern-length = length-mapFrom (faultIn x) 1 (take (x .n) (x .rounds)) ∙ length-take-le (x .n) (x .rounds) (omega arith)
-
   -- The fault of process p.
   pub fault-read : (p : ℕ) (fault : FaultEntry) → 1 ≤ p → p ≤ x .n → fault ≡ faultEntryOf x p → entryFault fault ≡ faultOf (instanceOf x) p
   fault-read p fault h g e = ap entryFault e ∙ sym (fault-at x p (omega arith) h g)

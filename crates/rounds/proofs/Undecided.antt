@@ -3,11 +3,10 @@ use mathlib.Core.Path.{_≡_, refl, sym, ap, _∙_}
 use Prim.Native.Nat.{ℕ, _+_, _-_, _≤_, _<_}
 use mathlib.Core.Bool.{Bool, true, false, false≢true}
 use native.Mathlib.Omega.{arith}
-use lib.Dec.{ltb}
-use borrow.Author.Tests.{ltb-true, ltb-false}
 use lib.ListN.{length, getD}
-use Rattle.protocol.specs.Count.{isUndecided, anyUndecided}
-use Rattle.protocol.proofs.Ended.{none-undecided, not-any}
+use Rattle.general.proofs.Tests.{by-order}
+use Rattle.protocol.specs.Undecided.{isUndecided, anyUndecided}
+use Rattle.protocol.proofs.Undecided.{none-undecided, not-any}
 use Rattle.tables.specs.declared.RunTable.{RunTable}
 use Rattle.tables.specs.RunReading.{statesIn}
 use Rattle.tables.proofs.Places.{state-in, length-statesIn}
@@ -21,11 +20,8 @@ pub none-yet : (run : RunTable) → NoneBelow run 1
 none-yet run = record { none = λ q h g e. let z : ⊥ = omega arith in z }
 
 pub none-more : (run : RunTable) (p : ℕ) → NoneBelow run p → (getD (run .ends) (p - 1) 0 ≡ 0 → ⊥) → NoneBelow run (p + 1)
-none-more run p before not-this = record { none = λ q h g e. by-place q h g e (ltb q p) refl }
-  where
-    by-place : (q : ℕ) → 1 ≤ q → q < p + 1 → getD (run .ends) (q - 1) 0 ≡ 0 → (b : Bool) → ltb q p ≡ b → ⊥
-    by-place q h g e true lt = before .none q h (ltb-true q p lt) e
-    by-place q h g e false ge = let same : p ≡ q = omega (arith, ltb-false q p ge) in not-this (rw same e)
+none-more run p before not-this =
+    record { none = λ q h g e. by-order p q (λ (l : p ≤ q). let same : p ≡ q = omega arith in not-this (rw same e)) (λ l. before .none q h l e) }
 
 module _ (n : ℕ) (run : RunTable) (size : length (run .ends) ≡ 64) (limit : n ≤ 64) where
   fits : n ≤ length (run .ends)

@@ -3,19 +3,18 @@
 use mathlib.Core.Path.{_≡_, refl, sym, ap, _∙_}
 use Prim.Native.Nat.{ℕ, _+_, _-_, _≤_, _<_}
 use native.Mathlib.Omega.{arith}
-use mathlib.Core.Bool.{Bool, true, false}
-use lib.Dec.{ltb}
-use borrow.Author.Tests.{ltb-true, ltb-false}
 use lib.ListN.{length, set, length-set}
 use lib.Seq.{getD-set-same, getD-set-other}
+use Rattle.general.proofs.Tests.{by-order}
 use Rattle.general.proofs.Indexed.{length-mapFrom}
 use Rattle.protocol.specs.Round.{State, stateOf, received, after, statesAfter}
-use Rattle.protocol.proofs.Pointwise.{round-state}
+use Rattle.protocol.specs.Run.{withRound}
+use Rattle.protocol.proofs.Pointwise.{states-ext, round-state}
 use Rattle.tables.specs.declared.InstanceTable.{InstanceTable}
 use Rattle.tables.specs.declared.RunTable.{RunTable}
 use Rattle.tables.specs.InstanceReading.{instanceOf}
 use Rattle.tables.specs.RunReading.{statesIn, runFrom}
-use Rattle.tables.proofs.Places.{fault-at, state-in, length-statesIn, states-ext}
+use Rattle.tables.proofs.Places.{fault-at, state-in, length-statesIn}
 use Rattle.rounds.specs.declared.Entry.{Entry}
 use Rattle.rounds.specs.declared.FaultEntry.{FaultEntry}
 use Rattle.rounds.specs.Entries.{entryOf, faultEntryOf, entryState, entryFault}
@@ -29,13 +28,13 @@ pub record Sized (run : RunTable) : Type 0 where
   pub values : length (run .values) ≡ 64
 
 -- What process q becomes in round r from its entry as the round began.
-abbrev pub becomes : InstanceTable → ℕ → RunTable → ℕ → State
-becomes x r run q =
+abbrev pub nextState : InstanceTable → ℕ → RunTable → ℕ → State
+nextState x r run q =
     after r q (entryFault (faultEntryOf x q)) (received (x .n) r (entryFault (faultEntryOf x r)) (entryState (entryOf run r)) q) (entryState (entryOf run q))
 
 pub record Underway (x : InstanceTable) (r : ℕ) (run now : RunTable) (p : ℕ) : Type 0 where
   pub sized : Sized now
-  pub done : (q : ℕ) → 1 ≤ q → q < p → entryState (entryOf now q) ≡ becomes x r run q
+  pub done : (q : ℕ) → 1 ≤ q → q < p → entryState (entryOf now q) ≡ nextState x r run q
   pub left : (q : ℕ) → p ≤ q → entryOf now q ≡ entryOf run q
   pub rounds : now .rounds ≡ run .rounds
   pub speakers : now .speakers ≡ run .speakers
@@ -81,13 +80,13 @@ entry-other run p q s ne = simp getD-set-other
 sized-with : (run : RunTable) (p : ℕ) (s : Entry) → Sized run → Sized (withEntry run p s)
 sized-with run p s sized = record { ends = simp length-set (sized .ends); ended = simp length-set (sized .ended); values = simp length-set (sized .values) }
 
--- One process more: p, which `becomes` this in the round.
-stored : (x : InstanceTable) (r : ℕ) (run now : RunTable) (p : ℕ) (s : Entry) → Underway x r run now p → 1 ≤ p → p ≤ 64
-    → entryState s ≡ becomes x r run p → Underway x r run (withEntry now p s) (p + 1)
-stored x r run now p s way h g e =
+-- One process more: p, which becomes this in the round.
+one-stored : (x : InstanceTable) (r : ℕ) (run now : RunTable) (p : ℕ) (s : Entry) → Underway x r run now p → 1 ≤ p → p ≤ 64
+    → entryState s ≡ nextState x r run p → Underway x r run (withEntry now p s) (p + 1)
+one-stored x r run now p s way h g e =
     record {
       sized = sized-with now p s (way .sized);
-      done = λ q a b. by-place q a b (ltb q p) refl;
+      done = λ q a b. by-order p q (at-p q b) (below-p q a);
       left = λ q a. entry-other now p q s (λ same. omega arith) ∙ way .left q (omega arith);
       rounds = way .rounds;
       speakers = way .speakers;
@@ -95,12 +94,12 @@ stored x r run now p s way h g e =
       commits = way .commits;
     }
   where
-    by-place : (q : ℕ) → 1 ≤ q → q < p + 1 → (b : Bool) → ltb q p ≡ b → entryState (entryOf (withEntry now p s) q) ≡ becomes x r run q
-    by-place q a b true lt =
-        let below : q < p = ltb-true q p lt in
-        ap entryState (entry-other now p q s (λ same. omega arith)) ∙ way .done q a below
-    by-place q a b false ge =
-        let same : q ≡ p = omega (arith, ltb-false q p ge) in
+    below-p : (q : ℕ) → 1 ≤ q → q < p → entryState (entryOf (withEntry now p s) q) ≡ nextState x r run q
+    below-p q a below = ap entryState (entry-other now p q s (λ same. omega arith)) ∙ way .done q a below
+
+    at-p : (q : ℕ) → q < p + 1 → p ≤ q → entryState (entryOf (withEntry now p s) q) ≡ nextState x r run q
+    at-p q b reached =
+        let same : q ≡ p = omega arith in
         rw same (ap entryState (entry-same now p s (way .sized) (omega arith)) ∙ e)
 
 -- The same, of what the code makes of the entries that it reads and of the coordinator's as the round began, and stores.
@@ -110,11 +109,11 @@ pub goes-on : (x : InstanceTable) (r : ℕ) (run now next : RunTable) (p : ℕ) 
     → next ≡ withEntry now p e → Underway x r run next (p + 1)
 goes-on x r run now next p fault c e way h g of-fault of-c becoming storing =
     let still : entryState (entryOf now p) ≡ entryState (entryOf run p) = ap entryState (way .left p (omega arith)) in
-    rw storing (stored x r run now p e way h g (becoming ∙ rw (of-fault, of-c, still)))
+    rw storing (one-stored x r run now p e way h g (becoming ∙ rw (of-fault, of-c, still)))
 
 module _ (x : InstanceTable) (r : ℕ) (run : RunTable) (h : 1 ≤ r) (g : r ≤ x .n) (fits : x .n ≤ 64) (faults : length (x .rounds) ≡ 64) (sized : Sized run) where
   -- A round of the definitions, at process q, from the tables.
-  round-at : (q : ℕ) → 1 ≤ q → q ≤ x .n → stateOf (statesAfter (instanceOf x) r (statesIn (x .n) run)) q ≡ becomes x r run q
+  round-at : (q : ℕ) → 1 ≤ q → q ≤ x .n → stateOf (statesAfter (instanceOf x) r (statesIn (x .n) run)) q ≡ nextState x r run q
   round-at q a b =
       let places : x .n ≤ length (x .rounds) = omega arith in
       let entries : x .n ≤ length (run .ends) = omega arith in
@@ -124,7 +123,7 @@ module _ (x : InstanceTable) (r : ℕ) (run : RunTable) (h : 1 ≤ r) (g : r ≤
 
   -- All have gone through it.
   pub all-through : (now : RunTable) (p : ℕ) → Underway x r run now p → x .n < p → runFrom (x .n) now ≡ withStates (instanceOf x) r (runFrom (x .n) run)
-  unfolding runFrom withStates statesAfter
+  unfolding runFrom withStates withRound statesAfter
   all-through now p way above = rw (states, way .rounds, way .speakers, way .sent, way .commits)
     where
       entries : x .n ≤ length (run .ends)

@@ -6,17 +6,18 @@ use native.Mathlib.Omega.{arith}
 use lib.ListN.{length, getD, length-map}
 use lib.Seq.{getD-take, length-take-le}
 use Rattle.protocol.specs.Round.{undecided, stateOf}
-use Rattle.protocol.specs.Count.{anyUndecided}
+use Rattle.protocol.specs.Undecided.{anyUndecided}
 use Rattle.protocol.specs.Run.{Run, initial, withRound, runTo, runOf}
 use Rattle.protocol.specs.WellFormed.{WellFormed}
-use Rattle.protocol.proofs.Pointwise.{proposalOf, initial-state}
+use Rattle.protocol.proofs.Pointwise.{states-ext, initial-state}
+use Rattle.protocol.specs.Instance.{proposalOf}
 use Rattle.protocol.proofs.Ended.{run-ended}
 use Rattle.protocol.proofs.Counts.{speakers-le, data-sent-le, commits-sent-le}
 use Rattle.tables.specs.declared.InstanceTable.{InstanceTable}
 use Rattle.tables.specs.declared.RunTable.{RunTable}
 use Rattle.tables.specs.InstanceReading.{instanceOf}
-use Rattle.tables.specs.RunReading.{stateFrom, statesIn, runFrom}
-use Rattle.tables.proofs.Places.{state-in, length-statesIn, states-ext}
+use Rattle.tables.specs.RunReading.{stateByEnd, statesIn, runFrom}
+use Rattle.tables.proofs.Places.{state-in, length-statesIn}
 use Rattle.rounds.specs.RoundAllowed.{RoundAllowed}
 use Rattle.rounds.proofs.Reading.{processes-of, resilience-of, limits}
 
@@ -31,7 +32,7 @@ module _ (x : InstanceTable) (run : RunTable) (limit : x .n ≤ 64) (proposals :
   states-length = length-statesIn (x .n) run (omega arith)
 
   start-state : (p : ℕ) → 1 ≤ p → p ≤ x .n → stateOf (statesIn (x .n) run) p ≡ undecided (proposalOf (instanceOf x) p)
-  unfolding proposalOf instanceOf stateFrom
+  unfolding proposalOf instanceOf stateByEnd
   start-state p h g =
       state-in (x .n) run p (omega arith) h g
       ∙ rw (none-ended (p - 1) (omega arith), values, getD-take (x .n) (x .values) (p - 1) 0 (omega arith))

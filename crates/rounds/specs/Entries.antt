@@ -6,7 +6,7 @@ use Rattle.protocol.specs.Round.{State}
 use Rattle.tables.specs.declared.InstanceTable.{InstanceTable}
 use Rattle.tables.specs.declared.RunTable.{RunTable}
 use Rattle.tables.specs.InstanceReading.{faultFrom}
-use Rattle.tables.specs.RunReading.{stateFrom}
+use Rattle.tables.specs.RunReading.{stateByEnd}
 use Rattle.rounds.specs.declared.Entry.{Entry}
 use Rattle.rounds.specs.declared.FaultEntry.{FaultEntry}
 
@@ -25,7 +25,7 @@ faultEntryOf x p =
 
 -- A process's entry of a run table: its state.
 abbrev pub entryState : Entry → State
-entryState s = stateFrom (s .end) (s .ended) (s .value)
+entryState s = stateByEnd (s .end) (s .ended) (s .value)
 
 -- A process's entry of an instance table: its fault.
 abbrev pub entryFault : FaultEntry → Fault

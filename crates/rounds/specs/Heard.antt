@@ -10,5 +10,5 @@ unfoldable pub reachFrom : ℕ → Reach
 reachFrom far = cond (eqb far 0) none (cond (eqb far 1) dataOnly all)
 
 -- What a process hears of a coordinator that sends this value, when its messages get so far.
-unfoldable pub messagesFrom : (far value : ℕ) → Messages
-messagesFrom far value = arriving (reachFrom far) (sends true value)
+unfoldable pub messagesReaching : (far value : ℕ) → Messages
+messagesReaching far value = arriving (reachFrom far) (sends true value)

@@ -3,10 +3,11 @@ ghost use mathlib.Core.Path.{_≡_};
 ghost use mathlib.Core.Bool.{cond};
 ghost use Prim.Native.Nat.{_-_, _≤_};
 ghost use lib.ListN.{length};
-ghost use Rattle.general.specs.Bits.{ones64};
-ghost use Rattle.protocol.specs.Count.{isUndecided, dataAt, commitsAt, countIn, countsAsCrash};
+ghost use Rattle.general.specs.Bits.{ones64, membersTo};
+ghost use Rattle.protocol.specs.Undecided.{isUndecided};
+ghost use Rattle.protocol.specs.Count.{dataAt, commitsAt, countIn};
+ghost use Rattle.protocol.specs.CrashCount.{countsAsCrash};
 ghost use Rattle.rounds.specs.Entries.{entryState, entryFault};
-ghost use Rattle.rounds.specs.Reached.{membersTo};
 use crate::Entry;
 use crate::FaultEntry;
 

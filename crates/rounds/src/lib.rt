@@ -3,7 +3,8 @@
 ghost use mathlib.Core.Path.{_≡_};
 ghost use mathlib.Core.Bool.{cond};
 ghost use Prim.Native.Nat.{_≤_};
-ghost use Rattle.protocol.specs.Count.{anyUndecided, crashCount};
+ghost use Rattle.protocol.specs.Undecided.{anyUndecided};
+ghost use Rattle.protocol.specs.CrashCount.{crashCount};
 ghost use Rattle.protocol.specs.Run.{initial, withRound, runOf};
 ghost use Rattle.protocol.specs.WellFormed.{WellFormed};
 ghost use Rattle.tables.specs.InstanceReading.{instanceOf};

@@ -5,7 +5,7 @@ ghost use Rattle.general.specs.Bits.{member};
 ghost use Rattle.protocol.specs.Delivery.{reach};
 ghost use Rattle.protocol.specs.Round.{received, after};
 ghost use Rattle.rounds.specs.Entries.{entryState, entryFault};
-ghost use Rattle.rounds.specs.Heard.{reachFrom, messagesFrom};
+ghost use Rattle.rounds.specs.Heard.{reachFrom, messagesReaching};
 use crate::Entry;
 use crate::FaultEntry;
 
@@ -47,7 +47,7 @@ pub fn reach_to(n: u8, r: u8, fault: FaultEntry, p: u8) -> u8
 // What process p hears in round r: how far the messages of the coordinator get, which has this fault and began the round in the state c.
 pub fn heard(n: u8, r: u8, fault: FaultEntry, c: Entry, p: u8) -> u8
     requires { ⌜ (1 ≤ r) × (1 ≤ p) × (p ≤ n) × (n ≤ 64) ⌝ }
-    ensures { λ far. ⌜ messagesFrom far (c .value) ≡ received n r (entryFault fault) (entryState c) p ⌝ }
+    ensures { λ far. ⌜ messagesReaching far (c .value) ≡ received n r (entryFault fault) (entryState c) p ⌝ }
 {
     if c.end == 0 {
         return reach_to(n, r, fault, p);
@@ -58,7 +58,7 @@ pub fn heard(n: u8, r: u8, fault: FaultEntry, c: Entry, p: u8) -> u8
 // What process p, with the fault `own`, becomes in round r when the messages with this value get so far.
 pub fn on_hearing(r: u8, p: u8, own: FaultEntry, far: u8, value: u32, s: Entry) -> Entry
     requires { ⌜ 1 ≤ r ⌝ }
-    ensures { λ e. ⌜ entryState e ≡ after r p (entryFault own) (messagesFrom far value) (entryState s) ⌝ }
+    ensures { λ e. ⌜ entryState e ≡ after r p (entryFault own) (messagesReaching far value) (entryState s) ⌝ }
 {
     if s.end != 0 {
         return s;

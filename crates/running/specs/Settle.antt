@@ -1,12 +1,10 @@
 -- Settling a ticket (document 01, 'The result', last paragraph, and 'Refused calls', "Settling"). The round is left free among those that qualify.
-use mathlib.Core.List.{List}
 use mathlib.Core.Path.{_≡_}
 use Prim.Native.Nat.{ℕ}
 use mathlib.Core.Bool.{true}
 use Rattle.protocol.specs.Instance.{Instance}
 use Rattle.protocol.specs.Settling.{qualifies}
 use Rattle.ticket.specs.Reading.{Reading, accepted, refused}
-use Rattle.ticket.specs.Ticket.{readTicket}
 
 -- An answer of the settling operation, a round or a refusal with its line, is right for a ticket as read: a round that qualifies, or that refusal.
 unfoldable pub Settles : Reading Instance → Reading ℕ → Type 0

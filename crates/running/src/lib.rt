@@ -1,8 +1,5 @@
 // Running and settling a ticket (document 01, 'The result' and 'Refused calls'): total on every text and every buffer.
-ghost use mathlib.Core.Path.{_≡_};
-ghost use lib.ListN.{take};
 ghost use Rattle.ticket.specs.Ticket.{readTicket};
-ghost use Rattle.running.specs.Running.{running, written};
 ghost use Rattle.running.specs.Settle.{Settles};
 ghost use Rattle.running.specs.Answer.{Ran, settlingOf};
 use ticket::Answer;

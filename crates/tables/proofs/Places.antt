@@ -1,18 +1,18 @@
--- What a table says of one process, and that tables that say the same of every process stand for the same states. Assumes nothing.
+-- What a table says of one process, and of how many. Assumes nothing.
 use mathlib.Core.List.{List}
-use mathlib.Core.Path.{_≡_, sym, ap, _∙_}
-use Prim.Native.Nat.{ℕ, suc, _+_, _-_, _≤_, _<_, min}
+use mathlib.Core.Path.{_≡_, ap, _∙_}
+use Prim.Native.Nat.{ℕ, _+_, _-_, _≤_, _<_}
 use native.Mathlib.Omega.{arith}
 use lib.ListN.{length, getD, take, length-take}
-use lib.Seq.{getD-take, ext-getD}
+use lib.Seq.{getD-take}
 use Rattle.general.specs.Indexed.{mapFrom}
-use Rattle.general.proofs.Indexed.{length-mapFrom, getD-mapFrom}
-use Rattle.protocol.specs.Instance.{Instance, Fault, correct, faultOf}
-use Rattle.protocol.specs.Round.{State, crashed, stateOf}
+use Rattle.general.proofs.Indexed.{length-mapFrom, mapFrom-at}
+use Rattle.protocol.specs.Instance.{correct, faultOf}
+use Rattle.protocol.specs.Round.{crashed, stateOf}
 use Rattle.tables.specs.declared.InstanceTable.{InstanceTable}
 use Rattle.tables.specs.declared.RunTable.{RunTable}
 use Rattle.tables.specs.InstanceReading.{faultFrom, faultIn, instanceOf}
-use Rattle.tables.specs.RunReading.{stateFrom, stateIn, statesIn}
+use Rattle.tables.specs.RunReading.{stateByEnd, stateIn, statesIn}
 
 -- A reading of the first n places of a list, taken with their numbers, at process p.
 module _ {B : Type 0} (f : ℕ → ℕ → B) (n : ℕ) (l : List ℕ) (fits : n ≤ length l) where
@@ -21,12 +21,13 @@ module _ {B : Type 0} (f : ℕ → ℕ → B) (n : ℕ) (l : List ℕ) (fits : n
 
   at-process : (p : ℕ) (b : B) → 1 ≤ p → p ≤ n → getD (mapFrom f 1 (take n l)) (p - 1) b ≡ f p (getD l (p - 1) 0)
   at-process p b h g =
-      let inside : p - 1 < length (take n l) = rw length-take (omega arith) in
-      let number : 1 + (p - 1) ≡ p = omega arith in
-      let place : p - 1 < n = omega arith in
-      getD-mapFrom f 1 (take n l) (p - 1) 0 b inside
-      ∙ ap (λ (q : ℕ). f q (getD (take n l) (p - 1) 0)) number
-      ∙ ap (f p) (getD-take n l (p - 1) 0 place)
+      let inside : p ≤ length (take n l) = rw length-take (omega arith) in
+      mapFrom-at f (take n l) p 0 b h inside ∙ ap (f p) (getD-take n l (p - 1) 0 (omega arith))
+
+-- A table has a fault for each process.
+pub length-pattern : (x : InstanceTable) → x .n ≤ length (x .rounds) → length (instanceOf x .pattern) ≡ x .n
+unfolding instanceOf
+length-pattern x fits = length-reading (faultIn x) (x .n) (x .rounds) fits
 
 -- The fault of process p in a table.
 pub fault-at : (x : InstanceTable) (p : ℕ) → x .n ≤ length (x .rounds) → 1 ≤ p → p ≤ x .n
@@ -37,28 +38,18 @@ fault-at x p fits h g = at-process (faultIn x) (x .n) (x .rounds) fits p correct
 
 -- The state of process p in a table.
 pub state-in : (n : ℕ) (run : RunTable) (p : ℕ) → n ≤ length (run .ends) → 1 ≤ p → p ≤ n
-    → stateOf (statesIn n run) p ≡ stateFrom (getD (run .ends) (p - 1) 0) (getD (run .ended) (p - 1) 0) (getD (run .values) (p - 1) 0)
+    → stateOf (statesIn n run) p ≡ stateByEnd (getD (run .ends) (p - 1) 0) (getD (run .ended) (p - 1) 0) (getD (run .values) (p - 1) 0)
 unfolding stateOf statesIn stateIn
 state-in n run p fits h g = at-process (stateIn run) n (run .ends) fits p (crashed 0) h g
 
 -- The same, of the process at place i.
 pub state-at-place : (n : ℕ) (run : RunTable) (i : ℕ) → n ≤ length (run .ends) → i < n
-    → stateOf (statesIn n run) (i + 1) ≡ stateFrom (getD (run .ends) i 0) (getD (run .ended) i 0) (getD (run .values) i 0)
+    → stateOf (statesIn n run) (i + 1) ≡ stateByEnd (getD (run .ends) i 0) (getD (run .ended) i 0) (getD (run .values) i 0)
 state-at-place n run i fits h =
     let place : i + 1 - 1 ≡ i = omega arith in
     state-in n run (i + 1) fits (omega arith) (omega arith)
-    ∙ ap (λ (k : ℕ). stateFrom (getD (run .ends) k 0) (getD (run .ended) k 0) (getD (run .values) k 0)) place
+    ∙ ap (λ (k : ℕ). stateByEnd (getD (run .ends) k 0) (getD (run .ended) k 0) (getD (run .values) k 0)) place
 
 pub length-statesIn : (n : ℕ) (run : RunTable) → n ≤ length (run .ends) → length (statesIn n run) ≡ n
 unfolding statesIn
 length-statesIn n run fits = length-reading (stateIn run) n (run .ends) fits
-
--- Lists of states that are the same at each process are the same.
-pub states-ext : (n : ℕ) (l m : List State) → length l ≡ n → length m ≡ n
-    → ((p : ℕ) → 1 ≤ p → p ≤ n → stateOf l p ≡ stateOf m p) → l ≡ m
-unfolding stateOf
-states-ext n l m hl hm same =
-    ext-getD (crashed 0) l m (hl ∙ sym hm)
-    λ i h.
-    let place : suc i - 1 ≡ i = omega arith in
-    ap (λ (k : ℕ). getD l k (crashed 0)) (sym place) ∙ same (suc i) (omega arith) (omega arith) ∙ ap (λ (k : ℕ). getD m k (crashed 0)) place

@@ -1,5 +1,4 @@
--- The instance that a table stands for.
-use mathlib.Core.List.{List}
+-- The instance that a table stands for (document 01, 'The ticket': n, t, the proposals and the failure lines with round, step, set and count).
 use Prim.Native.Nat.{ℕ, _-_}
 use mathlib.Core.Bool.{cond}
 use lib.Dec.{eqb}
@@ -16,6 +15,7 @@ faultFrom round step reached count = cond (eqb round 0) correct (crashes round (
 unfoldable pub faultIn : InstanceTable → ℕ → ℕ → Fault
 faultIn x p round = faultFrom round (getD (x .steps) (p - 1) 0) (getD (x .sets) (p - 1) 0) (getD (x .counts) (p - 1) 0)
 
+-- The instance: process p stands at place p - 1 of each array.
 unfoldable pub instanceOf : InstanceTable → Instance
 instanceOf x =
     record {

@@ -7,16 +7,11 @@ use native.Mathlib.Omega.{arith}
 use lib.Dec.{eqb, leb}
 use lib.ListN.{length, getD, set, replicate}
 use lib.Seq.{getD-set-same, getD-set-other}
-use borrow.Author.Tests.{ltb-true, leb-true, eqb-true, eqb-false}
+use borrow.Author.Tests.{ltb-true, leb-true, eqb-true}
+use Rattle.general.proofs.Tests.{both, by-equal}
 use Rattle.protocol.specs.Instance.{Fault, correct, crashes, beforeSending, duringData, duringCommits, pointFrom, withinLimits}
 use Rattle.protocol.specs.WellFormed.{PointAllowed, FaultAllowed, faultCount}
-use Rattle.ticket.specs.Accept.{FailureLine, placesCrash, allBetween, suitsStep}
-
--- Two tests that hold together hold each.
-pub both : (a b : Bool) → (a && b) ≡ true → (a ≡ true) × (b ≡ true)
-both true true e = (refl, refl)
-both true false e = absurd (let z : _≡_ {A = ℕ} 0 1 = cc in omega arith)
-both false b e = absurd (let z : _≡_ {A = ℕ} 0 1 = cc in omega arith)
+use Rattle.ticket.specs.Accept.{FailureLine, placesCrash, allBetween, suitsStep, faultBy}
 
 -- What refusal 4 lets pass.
 pub record Limits (n t : ℕ) : Type 0 where
@@ -36,30 +31,31 @@ limits-hold n t e =
     }
 
 -- Refusal 8 at each step, as the two tests of the step turn out.
-point-allowed : (n p round reached count : ℕ) (atZero atOne : Bool)
+step-allowed : (n p round reached count : ℕ) (atZero atOne : Bool)
     → cond atZero (eqb reached 0 && eqb count 0)
     (eqb round p && cond atOne (allBetween p n reached && eqb count 0) (eqb reached 0 && leb count (n - p))) ≡ true
     → p ≤ n → PointAllowed n p round (cond atZero beforeSending (cond atOne (duringData reached) (duringCommits count)))
 unfolding PointAllowed allBetween
-point-allowed n p round reached count true atOne e h = tt
-point-allowed n p round reached count false true e h =
+step-allowed n p round reached count true atOne e h = tt
+step-allowed n p round reached count false true e h =
     let outer = both _ _ e in
     let between = both _ _ (both _ _ (outer .1) .0) in
     (eqb-true _ _ (outer .0), eqb-true _ _ (between .0), ltb-true _ _ (between .1))
-point-allowed n p round reached count false false e h =
+step-allowed n p round reached count false false e h =
     let outer = both _ _ e in
     let few : count ≤ n - p = leb-true _ _ (both (eqb reached 0) _ (outer .1) .1) in
     (eqb-true _ _ (outer .0), omega arith)
 
--- What refusal 7 lets pass.
-pub record Placed (n t : ℕ) (l : FailureLine) : Type 0 where
+-- What refusal 7 lets pass after a failure line of process `last`.
+pub record Placed (n t last : ℕ) (l : FailureLine) : Type 0 where
   pub process-from-1 : 1 ≤ l .process
   pub process-to-n : l .process ≤ n
+  pub process-rises : last < l .process
   pub round-from-1 : 1 ≤ l .round
   pub round-to-last : l .round ≤ suc t
 
 module _ (n t last : ℕ) (l : FailureLine) (placed : placesCrash n t last l ≡ true) where
-  pub crash-placed : Placed n t l
+  pub crash-placed : Placed n t last l
   unfolding placesCrash
   crash-placed =
       let steps = both _ _ placed in
@@ -70,18 +66,19 @@ module _ (n t last : ℕ) (l : FailureLine) (placed : placesCrash n t last l ≡
       record {
         process-from-1 = leb-true _ _ (inside .0);
         process-to-n = leb-true _ _ (inside .1);
+        process-rises = ltb-true _ _ (rising .1);
         round-from-1 = leb-true _ _ (first .1);
         round-to-last = leb-true _ _ (rounds .1);
       }
 
   -- Refusals 7 and 8 let pass a fault that is allowed.
   pub crash-allowed : suitsStep n l ≡ true
-      → FaultAllowed n t (l .process) (crashes (l .round) (pointFrom (l .step) (l .reached) (l .count)))
+      → FaultAllowed n t (l .process) (faultBy l)
   unfolding suitsStep FaultAllowed pointFrom
   crash-allowed e = (
     crash-placed .round-from-1,
     crash-placed .round-to-last,
-    point-allowed n (l .process) (l .round) (l .reached) (l .count) (eqb (l .step) 0) (eqb (l .step) 1) e (crash-placed .process-to-n),
+    step-allowed n (l .process) (l .round) (l .reached) (l .count) (eqb (l .step) 0) (eqb (l .step) 1) e (crash-placed .process-to-n),
   )
 
 -- A fault that is stated where there was another adds at most one.
@@ -96,19 +93,17 @@ count-set (correct ∷ faults) (suc i) fault = count-set faults i fault
 count-set (crashes r q ∷ faults) (suc i) fault = let less = count-set faults i fault in omega arith
 
 -- No fault is stated where every process is correct.
-pub count-none : (n : ℕ) → faultCount (replicate n correct) ≡ 0
+pub faults-none : (n : ℕ) → faultCount (replicate n correct) ≡ 0
 unfolding faultCount
-count-none zero = refl
-count-none (suc n) = count-none n
+faults-none zero = refl
+faults-none (suc n) = faults-none n
 
 -- What holds of each process's fault, and of a new one, holds with the new one in its place.
 pub allowed-set : (P : ℕ → Fault → Type 0) (faults : List Fault) (q : ℕ) (fault : Fault) (p : ℕ) → 1 ≤ q → 1 ≤ p → p ≤ length faults
     → P q fault → P p (getD faults (p - 1) correct) → P p (getD (set faults (q - 1) fault) (p - 1) correct)
-allowed-set P faults q fault p h g k new old = choose (eqb p q) refl
-  where
-    choose : (same : Bool) → eqb p q ≡ same → P p (getD (set faults (q - 1) fault) (p - 1) correct)
-    choose true e = let at : p ≡ q = eqb-true _ _ e in rw (at, getD-set-same faults (q - 1) fault correct (omega arith)) new
-    choose false e =
-        let other : p ≡ q → ⊥ = eqb-false _ _ e in
-        let apart : p - 1 ≡ q - 1 → ⊥ = λ z. other (omega arith) in
-        rw (getD-set-other faults (q - 1) (p - 1) fault correct apart) old
+allowed-set P faults q fault p h g k new old =
+    by-equal p q
+    (λ (at : p ≡ q). rw (at, getD-set-same faults (q - 1) fault correct (omega arith)) new)
+    (λ other.
+    let apart : p - 1 ≡ q - 1 → ⊥ = λ z. other (omega arith) in
+    rw (getD-set-other faults (q - 1) (p - 1) fault correct apart) old)

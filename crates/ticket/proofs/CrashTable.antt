@@ -1,19 +1,17 @@
 -- A failure line that is stored in the table, read as the instance with that failure line. Assumes nothing.
 use mathlib.Core.List.{List}
-use mathlib.Core.Path.{_≡_, refl, sym, ap, _∙_}
-use mathlib.Core.Bool.{Bool, true, false}
+use mathlib.Core.Path.{_≡_, sym, ap, _∙_}
 use Prim.Native.Nat.{ℕ, suc, _-_, _≤_, _<_}
 use native.Mathlib.Omega.{arith}
-use lib.Dec.{eqb}
-use lib.ListN.{length, getD, take, set, length-take, length-set}
+use lib.ListN.{length, getD, take, set, length-set}
 use lib.Seq.{getD-set-same, getD-set-other, ext-getD}
-use borrow.Author.Tests.{eqb-true, eqb-false, ne-eqb}
-use Rattle.general.proofs.Indexed.{length-mapFrom}
-use Rattle.protocol.specs.Instance.{Fault, correct, crashes, pointFrom, faultOf}
-use Rattle.tables.specs.InstanceReading.{faultFrom, faultIn, instanceOf}
+use borrow.Author.Tests.{ne-eqb}
+use Rattle.general.proofs.Tests.{by-equal}
+use Rattle.protocol.specs.Instance.{Fault, correct, faultOf}
+use Rattle.tables.specs.InstanceReading.{faultFrom, instanceOf}
 use Rattle.tables.specs.declared.InstanceTable.{InstanceTable}
-use Rattle.tables.proofs.Places.{fault-at}
-use Rattle.ticket.specs.Accept.{FailureLine, withCrash}
+use Rattle.tables.proofs.Places.{length-pattern, fault-at}
+use Rattle.ticket.specs.Accept.{FailureLine, faultBy, withCrash}
 
 -- The table with a failure line at the place of its process.
 abbrev pub stored : InstanceTable → FailureLine → InstanceTable
@@ -62,14 +60,6 @@ full-stored x l full =
       all-counts = rw length-set (full .all-counts);
     }
 
-length-pattern : (x : InstanceTable) → x .n ≤ length (x .rounds) → length (instanceOf x .pattern) ≡ x .n
-unfolding instanceOf
-length-pattern x h = length-mapFrom (faultIn x) 1 (take (x .n) (x .rounds)) ∙ length-take (x .n) (x .rounds) ∙ omega arith
-
--- What a failure line says of its process.
-abbrev faultBy : FailureLine → Fault
-faultBy l = crashes (l .round) (pointFrom (l .step) (l .reached) (l .count))
-
 module _ (x : InstanceTable) (l : FailureLine) (roomy : Roomy x) (h : 1 ≤ l .process) (g : l .process ≤ x .n) (r : 1 ≤ l .round) where
   fits : x .n ≤ length (stored x l .rounds)
   fits = rw length-set (roomy .for-rounds)
@@ -101,19 +91,18 @@ module _ (x : InstanceTable) (l : FailureLine) (roomy : Roomy x) (h : 1 ≤ l .p
 
   same-at : (j : ℕ) → j < x .n → getD (instanceOf (stored x l) .pattern) j correct ≡ getD (set (instanceOf x .pattern) (l .process - 1) (faultBy l)) j correct
   unfolding faultOf
-  same-at j k = choose (eqb (suc j) (l .process)) refl
+  same-at j k = by-equal (suc j) (l .process) own-place other-place
     where
       here : suc j - 1 ≡ j
       here = omega arith
 
-      choose : (own : Bool) → eqb (suc j) (l .process) ≡ own
-          → getD (instanceOf (stored x l) .pattern) j correct ≡ getD (set (instanceOf x .pattern) (l .process - 1) (faultBy l)) j correct
-      choose true e =
-          let own : suc j ≡ l .process = eqb-true _ _ e in
+      own-place : suc j ≡ l .process → getD (instanceOf (stored x l) .pattern) j correct ≡ getD (set (instanceOf x .pattern) (l .process - 1) (faultBy l)) j correct
+      own-place own =
           let at : j ≡ l .process - 1 = omega arith in
           rw at (fault-stated ∙ sym (getD-set-same (instanceOf x .pattern) (l .process - 1) (faultBy l) correct (rw (length-pattern x (roomy .for-rounds)) (omega arith))))
-      choose false e =
-          let other : suc j ≡ l .process → ⊥ = eqb-false _ _ e in
+
+      other-place : (suc j ≡ l .process → ⊥) → getD (instanceOf (stored x l) .pattern) j correct ≡ getD (set (instanceOf x .pattern) (l .process - 1) (faultBy l)) j correct
+      other-place other =
           let apart : j ≡ l .process - 1 → ⊥ = λ at. other (omega arith) in
           let kept = fault-kept (suc j) (omega arith) k other in
           rw (getD-set-other (instanceOf x .pattern) (l .process - 1) j (faultBy l) correct apart) (rw here at kept)

@@ -3,9 +3,10 @@ use mathlib.Core.List.{List, [], _∷_}
 use mathlib.Core.Path.{_≡_, refl}
 use mathlib.Core.Bool.{Bool, true, false, cond, not}
 use Prim.Native.Nat.{ℕ, suc}
+use Rattle.general.proofs.Bytes.{Bytes}
 use Rattle.lines.specs.Line.{Line, bytes, noLine}
 use Rattle.ticket.specs.Reading.{Reading, accepted, refused, Step, next, refuse, proceed, readFrom}
-use Rattle.ticket.proofs.LineBytes.{Bytes, Lines}
+use Rattle.ticket.proofs.LineBytes.{Lines}
 
 -- The next stage, if there is one, has the property.
 unfoldable pub Keeps : {S : Type 0} → (S → Type 0) → Step S → Type 0

@@ -1,31 +1,14 @@
--- Every byte of a line is below 256, since a digit's value is at most 15; and the number that bytes stand for is below 256 to the power of their count. Assumes nothing.
+-- Every byte of a line is below 256, since a digit's value is at most 15. Assumes nothing.
 use mathlib.Core.List.{List, [], _∷_, _++_}
 use mathlib.Core.Path.{_≡_, refl}
 use mathlib.Core.Bool.{Bool, true, false, cond}
-use Prim.Native.Nat.{ℕ, zero, suc, _+_, _*_, _^_, _≤_, _<_}
-use native.Mathlib.Nat.{pow-suc, pow-zero, mul-one, mul-assoc, mul-comm}
+use Prim.Native.Nat.{ℕ, _+_, _*_, _≤_}
 use native.Mathlib.Omega.{arith}
 use lib.Dec.{eqb}
-use lib.ListN.{length, getD, drop}
-use lib.Seq.{getD-drop}
 use borrow.Author.Tests.{leb-true}
-use Rattle.general.specs.BigEndian.{number, numberFrom}
+use Rattle.general.proofs.Bytes.{Bytes, below-snoc}
 use Rattle.lines.specs.Digit.{digitValue, isDigit}
 use Rattle.lines.specs.Line.{Line, bytes, noLine, Scan, even, odd, broken, scan, closed, unclosed, linesFrom, linesOf}
-
--- Every number of the list is below the bound.
-abbrev pub AllBelow : ℕ → List ℕ → Type 0
-AllBelow bound l = (i : ℕ) → getD l i 0 < bound
-
--- Every number of the list is a byte.
-abbrev pub Bytes : List ℕ → Type 0
-Bytes b = AllBelow 256 b
-
-pub below-snoc : (bound : ℕ) (l : List ℕ) (v : ℕ) → AllBelow bound l → v < bound → AllBelow bound (l ++ (v ∷ []))
-below-snoc bound [] v h g zero = g
-below-snoc bound [] v h g (suc i) = omega arith
-below-snoc bound (a ∷ l) v h g zero = h 0
-below-snoc bound (a ∷ l) v h g (suc i) = below-snoc bound l v (λ j. h (suc j)) g i
 
 -- Every line of the list gives bytes, or nothing.
 unfoldable pub Lines : List Line → Type 0
@@ -84,20 +67,3 @@ from-bytes (c ∷ text) s h =
 pub lines-bytes : (text : List ℕ) → Lines (linesOf text)
 unfolding linesOf Scanned
 lines-bytes text = from-bytes text (even []) (λ i. omega arith)
-
--- The rest of a line's bytes are bytes.
-pub drop-bytes : (k : ℕ) (b : List ℕ) → Bytes b → Bytes (drop k b)
-drop-bytes k b h i = rw getD-drop (h (k + i))
-
-from-below : (b : List ℕ) (high bound : ℕ) → Bytes b → high < bound → numberFrom high b < bound * 256 ^ length b
-unfolding numberFrom
-from-below [] high bound h g = rw (pow-zero, mul-one) g
-from-below (a ∷ b) high bound h g =
-    let a-byte : a < 256 = h 0 in
-    let more : numberFrom (high * 256 + a) b < bound * 256 * 256 ^ length b = from-below b (high * 256 + a) (bound * 256) (λ i. h (suc i)) (omega arith) in
-    rw (pow-suc, mul-comm (256 ^ length b) 256, ← mul-assoc) more
-
--- So many bytes stand for a number below that power of 256.
-pub number-below : (b : List ℕ) → Bytes b → number b < 256 ^ length b
-unfolding number
-number-below b h = let less : numberFrom 0 b < 1 * 256 ^ length b = from-below b 0 1 h (omega arith) in omega arith

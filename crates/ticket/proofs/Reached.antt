@@ -6,18 +6,20 @@ use native.Mathlib.Numerals.{add-one}
 use native.Mathlib.Omega.{arith}
 use lib.ListN.{length, drop, replicate, length-take, length-set}
 use borrow.Author.Tests.{le-ltb, lt-ltb}
+use Rattle.general.proofs.Bytes.{Bytes}
 use Rattle.lines.specs.Line.{linesOf}
 use Rattle.lines.specs.Bytes.{bytesAt}
 use Rattle.lines.specs.Read.{readAt}
 use Rattle.lines.specs.LineAt.{LineAt}
 use Rattle.lines.specs.declared.Cursor.{Cursor}
 use Rattle.lines.specs.declared.LineRead.the-variants.{NoLine}
+use Rattle.lines.proofs.Bytes.{bytesAt-small}
 use Rattle.lines.proofs.Read.{read-no-line, lines-at-end}
 use Rattle.protocol.specs.Instance.{Instance}
 use Rattle.tables.specs.InstanceReading.{instanceOf}
 use Rattle.tables.specs.declared.InstanceTable.{InstanceTable}
 use Rattle.ticket.specs.Reading.{refused, next, proceed, readFrom}
-use Rattle.ticket.specs.Accept.{failures, withCrash, accept}
+use Rattle.ticket.specs.Accept.{failures, accept}
 use Rattle.ticket.specs.Ticket.{ticketLimit, atEnd, readTicket}
 use Rattle.ticket.specs.Progress.{lineOf, stageOf, stepOf, Storable, HasPlaces, Holds, withLimits, withValue}
 use Rattle.ticket.specs.declared.checks.CrashLine.{CrashLine}
@@ -25,7 +27,6 @@ use Rattle.ticket.specs.declared.accept.Place.{Place}
 use Rattle.ticket.specs.declared.accept.Place.the-variants.{Header, Proposals, Failures, Ended}
 use Rattle.ticket.specs.declared.accept.LineAnswer.{LineAnswer}
 use Rattle.ticket.specs.declared.accept.LineAnswer.the-variants.{Limits, Proposal, Crash, End, Refused}
-use Rattle.ticket.proofs.LineBytes.{Bytes, Lines, lines-bytes}
 use Rattle.ticket.proofs.Keeping.{Keeps}
 use Rattle.ticket.proofs.CrashTable.{stored, Full, full-roomy, full-stored, crash-stored}
 use Rattle.ticket.proofs.WellFormed.{StageAllowed, stage-keeps}
@@ -109,8 +110,7 @@ module _ (text : List ℕ) (table : InstanceTable) (at : ℕ) (place : Place) (k
   -- A line of bytes at this place.
   module _ (size : ℕ) (then : Cursor) (line : LineAt text at size then) where
     line-bytes : Bytes (bytesAt text at size)
-    unfolding Lines
-    line-bytes = (subst Lines (line .lines) (lines-bytes (drop at text))) .0
+    line-bytes = bytesAt-small text at size (line .holds)
 
     proceeds : readTicket text
         ≡ proceed (accept (stageOf place table) (bytesAt text at size)) k (λ s. readFrom accept atEnd s (suc k) (linesOf (drop (then .at) text)))

@@ -8,6 +8,7 @@ use lib.ListN.{length, take, set, replicate, length-append}
 use lib.Seq.{length-take-le, take-suc-set}
 use borrow.Author.Tests.{eq-eqb, ne-eqb}
 use Rattle.general.specs.Indexed.{mapFrom}
+use Rattle.general.proofs.Lists.{take-replicate}
 use Rattle.protocol.specs.Instance.{Fault, correct}
 use Rattle.tables.specs.InstanceReading.{faultFrom, faultIn, instanceOf}
 use Rattle.tables.specs.declared.InstanceTable.{InstanceTable}
@@ -24,11 +25,6 @@ module _ (count v : ℕ) (values : List ℕ) (inside : count < length values) wh
   length-more = rw (length-append, length-take-le count values (omega arith))
 
 -- A table without crash rounds.
-take-replicate : (n m a : ℕ) → n ≤ m → take n (replicate m a) ≡ replicate n a
-take-replicate zero m a h = refl
-take-replicate (suc n) zero a h = absurd (let z : ⊥ = omega arith in z)
-take-replicate (suc n) (suc m) a h = ap (λ (l : List ℕ). a ∷ l) (take-replicate n m a (omega arith))
-
 all-correct : (x : InstanceTable) (n i : ℕ) → mapFrom (faultIn x) i (replicate n 0) ≡ replicate n correct
 unfolding mapFrom faultIn faultFrom
 all-correct x zero i = refl

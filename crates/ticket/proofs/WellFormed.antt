@@ -8,15 +8,18 @@ use lib.Dec.{eqb, ltb, leb}
 use lib.ListN.{length, getD, drop, replicate, length-append, length-set, length-replicate, length-drop, getD-replicate}
 use borrow.Author.Tests.{eqb-true, eqb-false, leb-false}
 use Rattle.general.specs.BigEndian.{number}
-use Rattle.protocol.specs.Instance.{Instance, correct, crashes, pointFrom, faultOf, withinLimits}
+use Rattle.general.proofs.Tests.{both}
+use Rattle.general.proofs.Bytes.{AllBelow, Bytes, below-snoc, drop-bytes}
+use Rattle.general.proofs.BigEndian.{number-below}
+use Rattle.protocol.specs.Instance.{Instance, correct, faultOf, withinLimits}
 use Rattle.protocol.specs.WellFormed.{FaultAllowed, faultCount, WellFormed}
 use Rattle.lines.specs.Line.{linesOf}
 use Rattle.ticket.specs.Reading.{accepted, refused, next, readFrom}
-use Rattle.ticket.specs.Accept.{Stage, header, proposals, failures, ended, isKind, acceptHeader, afterProposal, acceptProposal, FailureLine, failureLine, placesCrash, suitsStep, withCrash, acceptCrash, acceptFailure, accept}
+use Rattle.ticket.specs.Accept.{Stage, header, proposals, failures, ended, isKind, acceptHeader, afterProposal, acceptProposal, FailureLine, failureLine, placesCrash, suitsStep, faultBy, withCrash, acceptCrash, acceptFailure, accept}
 use Rattle.ticket.specs.Ticket.{ticketLimit, atEnd, readTicket}
-use Rattle.ticket.proofs.LineBytes.{AllBelow, Bytes, below-snoc, lines-bytes, drop-bytes, number-below}
+use Rattle.ticket.proofs.LineBytes.{lines-bytes}
 use Rattle.ticket.proofs.Keeping.{Keeps, Gives, keeps-if, keeps-unless, keeps-either, reading-gives}
-use Rattle.ticket.proofs.CrashAllowed.{both, Limits, limits-hold, crash-placed, crash-allowed, count-set, count-none, allowed-set}
+use Rattle.ticket.proofs.CrashAllowed.{Limits, limits-hold, crash-placed, crash-allowed, count-set, faults-none, allowed-set}
 
 -- All values fit four bytes.
 abbrev ValuesFit : List ℕ → Type 0
@@ -69,13 +72,13 @@ module _ (n t : ℕ) (values : List ℕ) (limits : Limits n t) (fit : ValuesFit 
         all-have-fault = length-replicate n correct;
         values-fit = fit;
         faults-allowed = λ p h g. rw (getD-replicate n (p - 1) correct correct (omega arith)) tt;
-        few-faults = rw count-none (omega arith);
+        few-faults = rw faults-none (omega arith);
       }
 
   proposal-next : (whole : Bool) → eqb (length values) n ≡ whole
       → StageAllowed (cond whole (failures withoutCrash 0 0) (proposals n t values))
   unfolding StageAllowed
-  proposal-next true e = record { well-formed = without-crash (eqb-true _ _ e); counted = rw count-none (omega arith) }
+  proposal-next true e = record { well-formed = without-crash (eqb-true _ _ e); counted = rw faults-none (omega arith) }
   proposal-next false e =
       let missing : length values ≡ n → ⊥ = eqb-false _ _ e in
       record { limits = limits; values-fit = fit; some-missing = omega (arith, missing) }
@@ -103,8 +106,7 @@ module _ (x : Instance) (lines last : ℕ) (l : FailureLine) (known : FailuresAl
   unfolding withCrash faultOf
   with-crash less placed suits =
       let w = known .well-formed in
-      let fault = crashes (l .round) (pointFrom (l .step) (l .reached) (l .count)) in
-      let more = count-set (x .pattern) (l .process - 1) fault in
+      let more = count-set (x .pattern) (l .process - 1) (faultBy l) in
       let here = crash-placed (x .processes) (x .resilience) last l placed in
       let allowed = crash-allowed (x .processes) (x .resilience) last l placed suits in
       record {
@@ -115,7 +117,7 @@ module _ (x : Instance) (lines last : ℕ) (l : FailureLine) (known : FailuresAl
           all-propose = w .all-propose;
           all-have-fault = rw length-set (w .all-have-fault);
           values-fit = w .values-fit;
-          faults-allowed = λ p h g. allowed-set (FaultAllowed (x .processes) (x .resilience)) (x .pattern) (l .process) fault p
+          faults-allowed = λ p h g. allowed-set (FaultAllowed (x .processes) (x .resilience)) (x .pattern) (l .process) (faultBy l) p
               (here .process-from-1) h (rw (w .all-have-fault) g) allowed (w .faults-allowed p h g);
           few-faults = omega arith;
         };

@@ -5,7 +5,7 @@ use mathlib.Core.Bool.{Bool, cond, not, _&&_}
 use lib.Dec.{eqb, ltb, leb}
 use lib.ListN.{length, getD, take, drop, set, replicate}
 use Rattle.general.specs.BigEndian.{number}
-use Rattle.protocol.specs.Instance.{Instance, correct, crashes, pointFrom, withinLimits}
+use Rattle.protocol.specs.Instance.{Instance, Fault, correct, crashes, pointFrom, withinLimits}
 use Rattle.ticket.specs.Reading.{Step, next, refuse}
 
 -- Where in a ticket a line stands.
@@ -82,6 +82,10 @@ suitsStep n l =
     && cond (eqb (l .step) 1) (allBetween (l .process) n (l .reached) && eqb (l .count) 0)
     (eqb (l .reached) 0 && leb (l .count) (n - l .process)))
 
+-- The fault that a failure line states.
+abbrev pub faultBy : FailureLine → Fault
+faultBy l = crashes (l .round) (pointFrom (l .step) (l .reached) (l .count))
+
 -- The instance with this failure line.
 unfoldable pub withCrash : Instance → FailureLine → Instance
 withCrash x l =
@@ -89,7 +93,7 @@ withCrash x l =
       processes = x .processes;
       resilience = x .resilience;
       proposals = x .proposals;
-      pattern = set (x .pattern) (l .process - 1) (crashes (l .round) (pointFrom (l .step) (l .reached) (l .count)));
+      pattern = set (x .pattern) (l .process - 1) (faultBy l);
     }
 
 -- A failure line, whose kind and length are right: at most t of them (6), refusals 7 and 8.

@@ -1,6 +1,5 @@
 -- `result::put_byte` meets its contract. Assumes nothing.
 use borrow.Author.Needs.{needs}
-use native.Mathlib.Omega.{arith}
 use Rattle.result.proofs.put_byte.Statement.{statement}
 use Rattle.result.proofs.put_byte.Tie as tie
 

@@ -2,7 +2,7 @@
 use Prim.Native.Nat.{_+_, _-_}
 use native.Mathlib.Omega.{arith}
 use borrow.Author.Needs.{needs}
-use Rattle.rounds.proofs.Crashes.{counts-once, CountedBelow, counted-none, counted-more, counted-all}
+use Rattle.rounds.proofs.Crashes.{counted-once, CountedBelow, counted-none, counted-more, counted-all}
 use Rattle.rounds.proofs.crash_count.Statement.{statement}
 use Rattle.rounds.proofs.crash_count.Tie as tie
 
@@ -52,7 +52,7 @@ counts-as-crash-requires : tie.Need-counts-as-crash-requires Inv-loop μ-loop
 counts-as-crash-requires c κs = search needs
 
 add-f : tie.Need-add-f Inv-loop μ-loop
-add-f c = omega (arith, counts-once _ _ _ (c .counts-as-crash .ensures))
+add-f c = omega (arith, counted-once _ _ _ (c .counts-as-crash .ensures))
 
 add-p : tie.Need-add-p Inv-loop μ-loop
 add-p c = omega arith

@@ -3,7 +3,7 @@ use mathlib.Core.Path.{_≡_}
 use native.Mathlib.Omega.{arith}
 use lib.ListN.{length}
 use borrow.Author.Needs.{needs}
-use Rattle.protocol.specs.Count.{isUndecided}
+use Rattle.protocol.specs.Undecided.{isUndecided}
 use Rattle.rounds.specs.Entries.{entryState}
 use Rattle.rounds.proofs.Counted.{counts, at-most-one}
 use Rattle.rounds.proofs.with_counts.Statement.{statement}

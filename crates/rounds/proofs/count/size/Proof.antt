@@ -2,8 +2,7 @@
 use mathlib.Core.Path.{sym}
 use native.Mathlib.Omega.{arith}
 use lib.Count.{ones-le}
-use Rattle.protocol.proofs.SetSize.{ones64-ones}
-use Rattle.rounds.proofs.Ones.{word-members}
+use Rattle.general.proofs.Bits.{ones64-ones, word-members}
 use Rattle.rounds.proofs.count.size.Statement.{statement}
 use Rattle.rounds.proofs.count.size.Tie as tie
 

@@ -1,18 +1,17 @@
 -- What is claimed of how processes end is a matter of the ends of the instance's processes alone; and so is f. Assumes nothing.
 use mathlib.Core.Path.{_≡_, sym, ap, _∙_}
-use Prim.Native.Nat.{ℕ, _+_, _-_}
+use Prim.Native.Nat.{ℕ}
 use native.Mathlib.Omega.{arith}
-use lib.ListN.{length, getD}
-use lib.Seq.{ext-getD}
-use Rattle.general.proofs.Indexed.{length-mapFrom, getD-mapFrom}
+use lib.ListN.{length}
+use Rattle.general.proofs.Indexed.{length-mapFrom, mapFrom-at}
 use Rattle.protocol.specs.Instance.{Instance, correct, faultOf}
-use Rattle.protocol.specs.Count.{countsAsCrash}
+use Rattle.protocol.specs.CrashCount.{countsAsCrash}
 use Rattle.protocol.specs.Round.{State, crashed, stateOf}
 use Rattle.protocol.specs.Run.{runOf}
 use Rattle.protocol.specs.WellFormed.{WellFormed}
-use Rattle.protocol.specs.Consensus.{IsProcess, Decides, CrashesUndecided, Agreement, Validity, Termination, DecidesBy, CrashesAsSaid, CrashesNoOther, UniformConsensus, NoLater, endOf}
+use Rattle.protocol.specs.Consensus.{IsProcess, Decides, CrashesUndecided, Agreement, Validity, Termination, DecidesBy, CrashesAsSaid, CrashesNoOther, UniformConsensus, endsOf, NoLater, endOf}
+use Rattle.protocol.proofs.Pointwise.{states-ext}
 use Rattle.protocol.proofs.Ends.{states-at-end}
-use Rattle.demands.specs.Crashes.{endsOf}
 
 -- Every process of the instance ends alike.
 unfoldable pub SameEnds : Instance → (ℕ → State) → (ℕ → State) → Type 0
@@ -59,10 +58,6 @@ no-later-same x y ends ends′ other other′ same same′ h p r v d =
 pub ends-in-order : (x : Instance) → WellFormed x → (ends : ℕ → State) → SameEnds x (endOf x) ends → endsOf x ends ≡ runOf x .states
 unfolding SameEnds endsOf endOf stateOf
 ends-in-order x formed ends same =
-    let all : length (endsOf x ends) ≡ x .processes = simp length-mapFrom (formed .all-have-fault) in
-    ext-getD (crashed 0) (endsOf x ends) (runOf x .states) (all ∙ sym (states-at-end x formed))
-    (λ k h.
-    let place : 1 + k - 1 ≡ k = omega arith in
-    getD-mapFrom (λ p fault. ends p) _ (x .pattern) k correct (crashed 0) (omega (arith, formed .all-have-fault))
-    ∙ sym (same (1 + k) (record { first = omega arith; last = omega arith }))
-    ∙ ap (λ (i : ℕ). getD (runOf x .states) i (crashed 0)) place)
+    let as-many : length (endsOf x ends) ≡ x .processes = simp length-mapFrom (formed .all-have-fault) in
+    states-ext (x .processes) (endsOf x ends) (runOf x .states) as-many (states-at-end x formed)
+    (λ p h g. mapFrom-at _ (x .pattern) p correct (crashed 0) h (omega (arith, formed .all-have-fault)) ∙ sym (same p (record { first = h; last = g })))
