@@ -5,7 +5,7 @@ use Prim.Native.Nat.{ℕ, suc, _+_, _*_, _≤_, _<_}
 use native.Mathlib.Omega.{arith}
 use native.Mathlib.Nat.{zero-add}
 use lib.ListN.{length, getD, take, drop, set, drop-of-length-le, length-drop}
-use lib.Seq.{drop-cons, sets, sets-eq, take-all}
+use lib.Seq.{drop-cons, drop-at, sets, sets-eq, length-sets, take-all, length-take-le}
 use Rattle.general.specs.BigEndian.{number, numberFrom}
 
 -- ---- reading
@@ -40,12 +40,14 @@ stored vs l h =
     let fits : 0 + length vs ≤ length l = omega arith in
     rw (sets-eq vs l 0 fits, zero-add)
 
--- Where there are as many stores as elements, they alone are left.
-pub all-stored : (vs l : List ℕ) → length l ≡ length vs → sets l 0 vs ≡ vs
-all-stored vs l e =
-    let fits : length vs ≤ length l = omega arith in
-    let over : length l ≤ length vs = omega arith in
-    stored vs l fits ∙ rw (drop-of-length-le l over, append-nil)
+-- Where the stores from place i on reach the end, and those from the front reach place i, they alone are left.
+pub back-then-front : (front back l : List ℕ) (i : ℕ) → length front ≡ i → length l ≡ i + length back → sets (sets l i back) 0 front ≡ front ++ back
+back-then-front front back l i e h =
+    let fits : i + length back ≤ length l = omega arith in
+    let over : length l ≤ i + length back = omega arith in
+    let whole : sets l i back ≡ take i l ++ back = sets-eq back l i fits ∙ rw (drop-of-length-le l over, append-nil) in
+    let room : length front ≤ length (sets l i back) = omega (arith, length-sets l i back) in
+    stored front (sets l i back) room ∙ rw (whole, e, drop-at (take i l) back i (length-take-le i l (omega arith)))
 
 -- Four stores at the places that the code has.
 pub four-stored : (l : List ℕ) (at w x y z : ℕ) → set (set (set (set l at w) (at + 1) x) (at + 2) y) (at + 3) z ≡ sets l at (w ∷ x ∷ y ∷ z ∷ [])

@@ -10,11 +10,11 @@ use borrow.Author.Tests.{le-ltb}
 use Rattle.general.specs.BigEndian.{bytesOf}
 use Rattle.protocol.specs.Message.{Messages, nothing, estimate, estimateAndCommit, Reach, dataOnly, all, arriving}
 use Rattle.protocol.specs.Message as message
-use Rattle.protocol.specs.Transition.{sends, receives}
+use Rattle.protocol.specs.Transition.{sends}
 use Rattle.process.specs.PartState.{PartState, stateBytes, stateFrom, stateValid, stateRefusal, isOwnRound}
 use Rattle.process.specs.Frame.{Carried, dataFrame, commitFrame, framesOf, messagesFrom}
 use Rattle.process.specs.Speak.{spokenBy, speakRefusal, speakYields}
-use Rattle.process.specs.Close.{heardBy, stateAfter, closedOn, closeRefusal, closeState}
+use Rattle.process.specs.Close.{heardBy, closedOn, closeRefusal, closeState}
 use Rattle.process.proofs.RoundTrip.{state-from-bytes, messages-from-frames}
 use Rattle.process.proofs.StaysValid.{open-bytes}
 use Rattle.process.proofs.Operations.{close-closed}
@@ -33,17 +33,6 @@ arriving-carried dataOnly nothing h = tt
 arriving-carried dataOnly (estimate v) h = h
 arriving-carried dataOnly (estimateAndCommit v) h = h
 arriving-carried all m h = h
-
-receives-carried : (s : PartState) (own : Bool) (m : Messages) → s .value < 2 ^ 32 → Carried m → stateAfter s (receives own (s .value) m) .value < 2 ^ 32
-unfolding Carried receives stateAfter
-receives-carried s true m h c = h
-receives-carried s false nothing h c = h
-receives-carried s false (estimate v) h c = c
-receives-carried s false (estimateAndCommit v) h c = c
-
-pub closed-on-carried : (s : PartState) (m : Messages) → s .value < 2 ^ 32 → Carried m → closedOn s m .value < 2 ^ 32
-unfolding closedOn
-closed-on-carried s m h c = receives-carried s (isOwnRound s) m h c
 
 -- ---- the operations on the bytes of a valid open state
 

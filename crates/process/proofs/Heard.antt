@@ -1,9 +1,9 @@
--- The messages that bytes carry, one law for each way that the reader ends. Assumes nothing.
+-- The messages that bytes carry, and those that a process takes, one law for each way that the reader ends. Assumes nothing.
 use mathlib.Core.Path.{_≡_, refl, _∙_}
 use mathlib.Core.List.{List}
 use mathlib.Core.Option.{some, none}
-use mathlib.Core.Bool.{Bool, true, false, _&&_}
-use Prim.Native.Nat.{ℕ, _≤_, _<_}
+use mathlib.Core.Bool.{Bool, true, false, _&&_, and-false}
+use Prim.Native.Nat.{ℕ, _≤_}
 use native.Mathlib.Omega.{arith}
 use lib.Dec.{eqb}
 use lib.ListN.{length, getD, take, drop, length-drop}
@@ -11,7 +11,9 @@ use lib.Seq.{take-all, length-take-le, getD-take, getD-drop}
 use borrow.Author.Tests.{eq-eqb, ne-eqb}
 use Rattle.general.specs.BigEndian.{number}
 use Rattle.protocol.specs.Message.{nothing, estimate, estimateAndCommit}
+use Rattle.process.specs.PartState.{stateFrom, isOwnRound}
 use Rattle.process.specs.Frame.{isDataFrame, isCommitFrame, messagesFrom}
+use Rattle.process.specs.Close.{heardBy}
 
 -- A frame of this kind and of round r starts at `at`, where `next` is the place after it.
 abbrev pub starts : List ℕ → (at next kind r : ℕ) → Bool
@@ -42,9 +44,9 @@ module _ (r : ℕ) (b : List ℕ) where
       let two : length (drop 6 b) ≡ 2 = length-drop 6 b ∙ omega arith in
       rw (two, getD-drop 6 b 0 0, getD-drop 6 b 1 0)
 
-  no-last-two : (length b ≡ 8 → ⊥) → 6 ≤ length b → isCommitFrame r (drop 6 b) ≡ false
+  no-last-two : (length b ≡ 8 → ⊥) → isCommitFrame r (drop 6 b) ≡ false
   unfolding isCommitFrame
-  no-last-two h g =
+  no-last-two h =
       let other : length (drop 6 b) ≡ 2 → ⊥ = λ e. omega (arith, length-drop 6 b) in
       simp ne-eqb
 
@@ -53,12 +55,9 @@ module _ (r : ℕ) (b : List ℕ) where
   heard-nothing h = simp eq-eqb
 
   module _ (some-bytes : length b ≡ 0 → ⊥) where
-    pub heard-short : length b < 6 → none ≡ messagesFrom r b
+    pub heard-other-size : (length b ≡ 6 → ⊥) → (length b ≡ 8 → ⊥) → none ≡ messagesFrom r b
     unfolding messagesFrom
-    heard-short h =
-        let all : take 6 b ≡ b = take-all 6 b (omega arith) in
-        let other : length b ≡ 6 → ⊥ = λ e. omega arith in
-        simp (ne-eqb, all, other-size other)
+    heard-other-size h g = simp (ne-eqb, other-size h, no-last-two g, and-false (isDataFrame r (take 6 b)))
 
     module _ (six : 6 ≤ length b) where
       pub heard-no-data : starts b 0 1 0x21 r ≡ false → none ≡ messagesFrom r b
@@ -73,10 +72,6 @@ module _ (r : ℕ) (b : List ℕ) where
             let frame : isDataFrame r b ≡ true = rw all at (first-six six ∙ first) in
             simp (ne-eqb, frame, ev)
 
-        pub heard-long : (length b ≡ 6 → ⊥) → (length b ≡ 8 → ⊥) → none ≡ messagesFrom r b
-        unfolding messagesFrom
-        heard-long h g = simp (ne-eqb, other-size h, first-six six, first, no-last-two g six)
-
         module _ (eight : length b ≡ 8) where
           pub heard-no-commit : starts b 6 7 0x22 r ≡ false → none ≡ messagesFrom r b
           unfolding messagesFrom
@@ -89,3 +84,18 @@ module _ (r : ℕ) (b : List ℕ) where
           heard-both v ev e =
               let other : length b ≡ 6 → ⊥ = λ h. omega arith in
               simp (ne-eqb, other-size other, first-six six, first, last-two eight, e, ev)
+
+-- What a process takes of the bytes heard.
+module _ (state heard : List ℕ) where
+  pub heard-by-other : (getD state 0 0 ≡ getD state 3 0 → ⊥) → messagesFrom (getD state 3 0) heard ≡ heardBy (stateFrom state) heard
+  unfolding heardBy isOwnRound stateFrom
+  heard-by-other h = simp ne-eqb
+
+  module _ (own : getD state 0 0 ≡ getD state 3 0) where
+    pub heard-by-own-bytes : (length heard ≡ 0 → ⊥) → none ≡ heardBy (stateFrom state) heard
+    unfolding heardBy isOwnRound stateFrom
+    heard-by-own-bytes h = simp (eq-eqb, ne-eqb)
+
+    pub heard-by-own : length heard ≡ 0 → some nothing ≡ heardBy (stateFrom state) heard
+    unfolding heardBy isOwnRound stateFrom
+    heard-by-own h = simp (eq-eqb, heard-nothing (getD state 3 0) heard h)

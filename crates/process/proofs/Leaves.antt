@@ -14,8 +14,7 @@ use Rattle.process.specs.Start.{startState, startRefusal, startBytes}
 use Rattle.process.specs.Close.{heardBy, closedOn, heardRefusal, closeRefusal, closeState}
 use Rattle.process.proofs.Valid.{identity-says, both}
 use Rattle.process.proofs.Opened.{Opened, opened}
-use Rattle.process.proofs.Operations.{start-written}
-use Rattle.process.proofs.Operations.{close-closed}
+use Rattle.process.proofs.Operations.{start-written, close-closed}
 use Rattle.process.proofs.StaysValid.{within-valid, valid-bytes, open-bytes, closed-on-valid}
 
 -- ---- starting

@@ -3,7 +3,6 @@ pub mod Bytes
 pub mod Valid
 pub mod Opened
 pub mod Heard
-pub mod Receive
 pub mod Closing
 pub mod Operations
 -- Theorems on the definitions alone.

@@ -1,7 +1,7 @@
 -- What the three operations answer and leave, one law for each way that they end. Assumes nothing.
 use mathlib.Core.Path.{_≡_, refl, ap, _∙_, sym}
 use mathlib.Core.List.{List, [], _++_}
-use mathlib.Core.Bool.{true, false}
+use mathlib.Core.Bool.{true, false, and-false}
 use mathlib.Core.Option.{some, none}
 use Prim.Native.Nat.{ℕ, _≤_, _<_}
 use native.Mathlib.Omega.{arith}
@@ -20,15 +20,15 @@ use Rattle.process.proofs.Bytes.{value-from}
 
 -- What starting answers and leaves.
 module _ (p n t v : ℕ) (lent : List ℕ) where
+  pub start-length : (length lent ≡ 9 → ⊥) → (10 ≡ startRefusal p n t lent) × (lent ≡ startBytes p n t v lent)
+  unfolding startRefusal startBytes
+  start-length h = (simp (ne-eqb, and-false (identityValid p n t)), simp (ne-eqb, and-false (identityValid p n t)))
+
   pub start-identity : identityValid p n t ≡ false → (10 ≡ startRefusal p n t lent) × (lent ≡ startBytes p n t v lent)
   unfolding startRefusal startBytes
   start-identity a = (simp a, simp a)
 
   module _ (identity : identityValid p n t ≡ true) where
-    pub start-length : (length lent ≡ 9 → ⊥) → (10 ≡ startRefusal p n t lent) × (lent ≡ startBytes p n t v lent)
-    unfolding startRefusal startBytes
-    start-length h = (simp (identity, ne-eqb), simp (identity, ne-eqb))
-
     pub start-written : (after : List ℕ) → length lent ≡ 9 → after ≡ stateBytes (startState p n t v)
         → (0 ≡ startRefusal p n t lent) × (after ≡ startBytes p n t v lent)
     unfolding startRefusal startBytes

@@ -1,5 +1,5 @@
 -- What the checks of a state come to, one law for each way that they end, and what they say where they pass. Assumes nothing.
-use mathlib.Core.Path.{_≡_, refl}
+use mathlib.Core.Path.{_≡_, refl, sym}
 use mathlib.Core.List.{List}
 use mathlib.Core.Bool.{Bool, true, false, _&&_}
 use Prim.Native.Nat.{ℕ, suc, _+_, _≤_, _<_}
@@ -7,7 +7,7 @@ use native.Mathlib.Omega.{arith}
 use native.Mathlib.Numerals.{add-one}
 use lib.Dec.{eqb, leb, ltb}
 use lib.ListN.{length, getD}
-use borrow.Author.Tests.{ltb-true, leb-true, eqb-true, eqb-false, le-ltb, le-leb, lt-leb, eq-eqb, ne-eqb}
+use borrow.Author.Tests.{ltb-true, leb-true, eqb-true, eqb-false, le-leb, lt-leb, eq-eqb, ne-eqb}
 use Rattle.protocol.specs.Instance.{withinLimits}
 use Rattle.process.specs.PartState.{identityValid, roundValid, fieldsValid, stateValid, stateFrom, stateRefusal}
 
@@ -16,27 +16,45 @@ pub both : (a b : Bool) → (a && b) ≡ true → (a ≡ true) × (b ≡ true)
 both true b e = (refl, e)
 both false b e = (e, cc)
 
--- n, t and the process within the limits.
+-- A test that holds only where nothing does is false.
+pub refuted : (b : Bool) → (b ≡ true → ⊥) → false ≡ b
+refuted true h = absurd (h refl)
+refuted false h = refl
+
+-- Two tests that say the same are the same.
+pub same-test : (a b : Bool) → (a ≡ true → b ≡ true) → (b ≡ true → a ≡ true) → a ≡ b
+same-test true b f g = sym (f refl)
+same-test false true f g = g refl
+same-test false false f g = refl
+
+-- Within the limits every number is a byte.
+pub record Identity (p n t : ℕ) : Type 0 where
+  pub process : 1 ≤ p
+  pub within : p ≤ n
+  pub processes : n ≤ 64
+  pub resilience : t < n
+
+pub identity-says : (p n t : ℕ) → identityValid p n t ≡ true → Identity p n t
+unfolding identityValid withinLimits
+identity-says p n t e =
+    let top = both (withinLimits n t && leb 1 p) (leb p n) e in
+    let next = both (withinLimits n t) (leb 1 p) (top .0) in
+    let limits = both (leb 1 n && leb n 64) (ltb t n) (next .0) in
+    let size = both (leb 1 n) (leb n 64) (limits .0) in
+    record {
+      process = leb-true 1 p (next .1);
+      within = leb-true p n (top .1);
+      processes = leb-true n 64 (size .1);
+      resilience = ltb-true t n (limits .1);
+    }
+
 module _ (p n t : ℕ) where
-  pub identity-none : n < 1 → false ≡ identityValid p n t
-  unfolding identityValid withinLimits
-  identity-none a = simp lt-leb
+  pub identity-fails : (Identity p n t → ⊥) → false ≡ identityValid p n t
+  identity-fails h = refuted (identityValid p n t) (λ e. h (identity-says p n t e))
 
-  pub identity-many : 1 ≤ n → 64 < n → false ≡ identityValid p n t
+  pub identity-last : t < n → n ≤ 64 → 1 ≤ p → leb p n ≡ identityValid p n t
   unfolding identityValid withinLimits
-  identity-many a b = simp (le-leb, lt-leb)
-
-  pub identity-resilience : 1 ≤ n → n ≤ 64 → n ≤ t → false ≡ identityValid p n t
-  unfolding identityValid withinLimits
-  identity-resilience a b d = simp (le-leb, le-ltb)
-
-  pub identity-zero : 1 ≤ n → n ≤ 64 → t < n → p < 1 → false ≡ identityValid p n t
-  unfolding identityValid withinLimits
-  identity-zero a b d e = simp (le-leb, lt-leb)
-
-  pub identity-last : 1 ≤ n → n ≤ 64 → t < n → 1 ≤ p → leb p n ≡ identityValid p n t
-  unfolding identityValid withinLimits
-  identity-last a b d e = simp le-leb
+  identity-last a b d = let one : 1 ≤ n = omega arith in simp le-leb
 
 -- A round that goes with its mark; the code has t + 1 for `suc t`.
 module _ (p t round mark : ℕ) where
@@ -59,27 +77,6 @@ module _ (p t round mark : ℕ) where
   pub round-own : (mark ≡ 2 → ⊥) → 1 ≤ round → round ≤ t + 1 → leb round p ≡ roundValid p t round mark
   unfolding roundValid
   round-own a b d = let e : round ≤ suc t = rw add-one at d in simp (ne-eqb, le-leb)
-
--- Within the limits every number is a byte.
-pub record Identity (p n t : ℕ) : Type 0 where
-  pub process : 1 ≤ p
-  pub within : p ≤ n
-  pub processes : n ≤ 64
-  pub resilience : t < n
-
-pub identity-says : (p n t : ℕ) → identityValid p n t ≡ true → Identity p n t
-unfolding identityValid withinLimits
-identity-says p n t e =
-    let top = both (withinLimits n t && leb 1 p) (leb p n) e in
-    let next = both (withinLimits n t) (leb 1 p) (top .0) in
-    let limits = both (leb 1 n && leb n 64) (ltb t n) (next .0) in
-    let size = both (leb 1 n) (leb n 64) (limits .0) in
-    record {
-      process = leb-true 1 p (next .1);
-      within = leb-true p n (top .1);
-      processes = leb-true n 64 (size .1);
-      resilience = ltb-true t n (limits .1);
-    }
 
 -- The bytes of a state, its value apart.
 module _ (p n t round mark : ℕ) where
@@ -140,6 +137,11 @@ module _ (b : List ℕ) where
   pub state-length : (length b ≡ 9 → ⊥) → 10 ≡ stateRefusal b
   unfolding stateRefusal
   state-length a = simp ne-eqb
+
+  -- Where the mark is open, what the test of an open state comes to.
+  pub open-marked : getD b 4 0 ≡ 0 → (x : Bool) → x ≡ fieldsValid (getD b 0 0) (getD b 1 0) (getD b 2 0) (getD b 3 0) 0 → stateValid (stateFrom b) ≡ x
+  unfolding stateValid stateFrom
+  open-marked h x e = rw (h, e)
 
   module _ (nine : length b ≡ 9) where
     pub state-invalid : stateValid (stateFrom b) ≡ false → 10 ≡ stateRefusal b

@@ -1,13 +1,10 @@
--- The answers of the code's reader and of its transition, as the definitions' messages and outcomes (document 01, 'The desk part': "what was heard").
+-- The answers of the code's reader, as the definitions' messages (document 01, 'The desk part': "what was heard").
 use mathlib.Core.Option.{Option, some, none}
 use Rattle.protocol.specs.Message as message
-use Rattle.protocol.specs.Transition as transition
 use Rattle.process.specs.declared.frame.Messages.{Messages}
 use Rattle.process.specs.declared.frame.Messages.the-variants.{Nothing, Estimate, EstimateAndCommit}
 use Rattle.process.specs.declared.frame.Heard.{Heard}
 use Rattle.process.specs.declared.frame.Heard.the-variants.{Form, NoForm}
-use Rattle.process.specs.declared.transition.Outcome.{Outcome}
-use Rattle.process.specs.declared.transition.Outcome.the-variants.{Continues, Decides}
 
 -- The messages that the reader names.
 unfoldable pub messagesAs : Messages → message.Messages
@@ -19,8 +16,3 @@ messagesAs (EstimateAndCommit v) = message.estimateAndCommit v
 unfoldable pub heardAs : Heard → Option message.Messages
 heardAs (Form m) = some (messagesAs m)
 heardAs NoForm = none
-
--- The outcome of a round that the transition names.
-unfoldable pub outcomeAs : Outcome → transition.Outcome
-outcomeAs (Continues v) = transition.continues v
-outcomeAs (Decides v) = transition.decides v

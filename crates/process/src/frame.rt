@@ -41,23 +41,22 @@ fn read_heard(round: u8, heard: &[u8]) -> Heard
     if heard.len() == 0 {
         return Heard::Form(Messages::Nothing);
     }
-    if heard.len() < 6 {
+    if heard.len() == 6 {
+        if !starts_frame(heard, 0, 0x21, round) {
+            return Heard::NoForm;
+        }
+        return Heard::Form(Messages::Estimate(number_at(heard, 2)));
+    }
+    if heard.len() != 8 {
         return Heard::NoForm;
     }
     if !starts_frame(heard, 0, 0x21, round) {
         return Heard::NoForm;
     }
-    let value = number_at(heard, 2);
-    if heard.len() == 6 {
-        return Heard::Form(Messages::Estimate(value));
-    }
-    if heard.len() != 8 {
-        return Heard::NoForm;
-    }
     if !starts_frame(heard, 6, 0x22, round) {
         return Heard::NoForm;
     }
-    Heard::Form(Messages::EstimateAndCommit(value))
+    Heard::Form(Messages::EstimateAndCommit(number_at(heard, 2)))
 }
 
 // The messages that a process takes in the round that it is in; in its own round no byte.

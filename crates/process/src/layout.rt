@@ -38,17 +38,17 @@ fn write_number(b: &mut [u8], at: usize, value: u32)
     b[at + 3] = (value % 256) as u8;
 }
 
-// Writes the nine bytes of a state.
+// Writes the nine bytes of a state, the value first: its four stores alone are then compiled to one.
 pub fn write_state(state: &mut [u8], process: u8, n: u8, t: u8, round: u8, mark: u8, value: u32)
     requires { ⌜ length (now state) ≡ 9 ⌝ }
     ensures { λ _. ⌜ now (state .exit) ≡ stateBytes (record { process = process; processes = n; resilience = t; round = round; mark = mark; value = value }) ⌝ }
 {
+    write_number(state, 5, value);
     state[0] = process;
     state[1] = n;
     state[2] = t;
     state[3] = round;
     state[4] = mark;
-    write_number(state, 5, value);
 }
 
 // Writes data then commit of a round, eight bytes; what follows them stays.

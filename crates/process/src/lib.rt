@@ -24,10 +24,10 @@ pub fn start(process: u64, n: u64, t: u64, value: u32, state: &mut [u8]) -> u64
     ensures { λ r. ⌜ r ≡ startRefusal process n t (now (state .entry)) ⌝ }
     ensures { λ _. ⌜ now (state .exit) ≡ startBytes process n t value (now (state .entry)) ⌝ }
 {
-    if !identity_valid(process, n, t) {
+    if state.len() != 9 {
         return 10;
     }
-    if state.len() != 9 {
+    if !identity_valid(process, n, t) {
         return 10;
     }
     write_state(state, process as u8, n as u8, t as u8, 1, 0, value);

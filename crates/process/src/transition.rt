@@ -3,60 +3,59 @@ use crate::frame::Messages;
 use crate::layout::number_at;
 use crate::layout::write_state;
 ghost use mathlib.Core.Path.{_≡_};
-ghost use Rattle.protocol.specs.Transition.{receives};
+ghost use lib.ListN.{length};
+ghost use Rattle.protocol.specs.Transition.{continues, decides};
 ghost use Rattle.process.specs.PartState.{stateFrom, stateBytes};
 ghost use Rattle.process.specs.Close.{RoundFits, stateAfter, closedOn};
-ghost use Rattle.process.specs.Heard.{messagesAs, outcomeAs};
+ghost use Rattle.process.specs.Heard.{messagesAs};
 
-// An open process at the end of a round: it goes on with an estimate, or decides a value.
-pub enum Outcome {
-    Continues(u32),
-    Decides(u32),
-}
-
-// The outcome of a round for a process that holds this value; `own` says whether it coordinates the round.
-fn receive(own: bool, value: u32, messages: Messages) -> Outcome
-    ensures { λ r. ⌜ outcomeAs r ≡ receives own value (messagesAs messages) ⌝ }
-{
-    if own {
-        return Outcome::Decides(value);
-    }
-    match messages {
-        Messages::Nothing => Outcome::Continues(value),
-        Messages::Estimate(v) => Outcome::Continues(v),
-        Messages::EstimateAndCommit(v) => Outcome::Decides(v),
-    }
-}
-
-// Writes the state of an open process after a round with this outcome.
-fn write_after(state: &mut [u8], outcome: Outcome)
-    requires { ⌜ RoundFits (now state) ⌝ }
-    ensures { λ _. ⌜ now (state .exit) ≡ stateBytes (stateAfter (stateFrom (now (state .entry))) (outcomeAs outcome)) ⌝ }
+// Writes the state of a process that decides this value.
+fn decide(state: &mut [u8], value: u32)
+    requires { ⌜ length (now state) ≡ 9 ⌝ }
+    ensures { λ _. ⌜ now (state .exit) ≡ stateBytes (stateAfter (stateFrom (now (state .entry))) (decides value)) ⌝ }
 {
     let process = state[0];
     let n = state[1];
     let t = state[2];
     let round = state[3];
-    match outcome {
-        Outcome::Decides(v) => write_state(state, process, n, t, round, 1, v),
-        Outcome::Continues(v) => {
-            if round == t + 1 {
-                write_state(state, process, n, t, round, 2, v);
-            } else {
-                write_state(state, process, n, t, round + 1, 0, v);
-            }
-        }
+    write_state(state, process, n, t, round, 1, value);
+}
+
+// Writes the state of a process that ends the round undecided, with this estimate.
+fn go_on(state: &mut [u8], estimate: u32)
+    requires { ⌜ RoundFits (now state) ⌝ }
+    ensures { λ _. ⌜ now (state .exit) ≡ stateBytes (stateAfter (stateFrom (now (state .entry))) (continues estimate)) ⌝ }
+{
+    let process = state[0];
+    let n = state[1];
+    let t = state[2];
+    let round = state[3];
+    if round == t + 1 {
+        write_state(state, process, n, t, round, 2, estimate);
+    } else {
+        write_state(state, process, n, t, round + 1, 0, estimate);
     }
 }
 
 // Writes the state of an open process after a round in which these messages were received.
+// The value is read only where it is kept, since a read of four bytes waits for stores of single bytes before it.
 pub fn close_on(state: &mut [u8], messages: Messages)
     requires { ⌜ RoundFits (now state) ⌝ }
     ensures { λ _. ⌜ now (state .exit) ≡ stateBytes (closedOn (stateFrom (now (state .entry))) (messagesAs messages)) ⌝ }
 {
     let process = state[0];
     let round = state[3];
-    let value = number_at(state, 5);
-    let outcome = receive(process == round, value, messages);
-    write_after(state, outcome);
+    if process == round {
+        let value = number_at(state, 5);
+        decide(state, value);
+        return;
+    }
+    match messages {
+        Messages::Nothing => {
+            let value = number_at(state, 5);
+            go_on(state, value);
+        }
+        Messages::Estimate(v) => go_on(state, v),
+        Messages::EstimateAndCommit(v) => decide(state, v),
+    }
 }

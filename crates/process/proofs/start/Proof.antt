@@ -11,27 +11,27 @@ use Rattle.process.proofs.Operations.{start-identity, start-length, sta
 use Rattle.process.proofs.start.Statement.{statement}
 use Rattle.process.proofs.start.Tie as tie
 
+returns : tie.Need-returns
+returns c = start-length _ _ _ _ _ (λ e. omega arith)
+
 identity-valid-requires : tie.Need-identity-valid-requires
 identity-valid-requires c κs = search needs
 
-returns : tie.Need-returns
-returns c = start-identity _ _ _ _ _ (sym (c .before .identity-valid .ensures) ∙ not-true _ (c .if1 .taken))
-
--- What the first test leaves.
-valid : (c : tie.Else1) → identityValid (c .before .before .before .args .process) (c .before .before .before .args .n) (c .before .before .before .args .t) ≡ true
-valid c = sym (c .before .identity-valid .ensures) ∙ not-false _ (c .if1 .left)
-
 returns-2 : tie.Need-returns-2
-returns-2 c = start-length _ _ _ _ _ (valid (c .before)) (λ e. omega arith)
+returns-2 c = start-identity _ _ _ _ _ (sym (c .before .identity-valid .ensures) ∙ not-true _ (c .if2 .taken))
+
+-- What the test of the limits leaves.
+valid : (c : tie.Else2) → identityValid (c .before .before .before .before .args .process) (c .before .before .before .before .args .n) (c .before .before .before .before .args .t) ≡ true
+valid c = sym (c .before .identity-valid .ensures) ∙ not-false _ (c .if2 .left)
 
 cast-write-state : tie.Need-cast-write-state
-cast-write-state c = omega (arith, identity-says _ _ _ (valid (c .before .before)))
+cast-write-state c = omega (arith, identity-says _ _ _ (valid (c .before)))
 
 cast-write-state-2 : tie.Need-cast-write-state-2
-cast-write-state-2 c = omega (arith, identity-says _ _ _ (valid (c .before .before)))
+cast-write-state-2 c = omega (arith, identity-says _ _ _ (valid (c .before)))
 
 cast-write-state-3 : tie.Need-cast-write-state-3
-cast-write-state-3 c = omega (arith, identity-says _ _ _ (valid (c .before .before)))
+cast-write-state-3 c = omega (arith, identity-says _ _ _ (valid (c .before)))
 
 write-state-requires : tie.Need-write-state-requires
 write-state-requires c κs = search needs
@@ -41,14 +41,14 @@ same-length c = search needs
 
 returns-3 : tie.Need-returns-3
 unfolding startState
-returns-3 c = start-written _ _ _ _ _ (valid (c .before .before .before .before .before)) _ (omega arith) (c .before .before .write-state .ensures)
+returns-3 c = start-written _ _ _ _ _ (valid (c .before .before .before .before)) _ (omega arith) (c .before .before .write-state .ensures)
 
 pub start-spec : {M : Type 1} → statement M
 start-spec =
     tie.close
     (tie.spec
-    identity-valid-requires
     returns
+    identity-valid-requires
     returns-2
     cast-write-state
     cast-write-state-2

@@ -3,7 +3,7 @@ use borrow.Author.Needs.{needs}
 use native.Mathlib.Omega.{arith}
 use mathlib.Core.Path.{_∙_}
 use Rattle.process.specs.Heard.{messagesAs, heardAs}
-use Rattle.process.proofs.Receive.{heard-by-other, heard-by-own-bytes, heard-by-own}
+use Rattle.process.proofs.Heard.{heard-by-other, heard-by-own-bytes, heard-by-own}
 use Rattle.process.proofs.frame.heard_by.Statement.{statement}
 use Rattle.process.proofs.frame.heard_by.Tie as tie
 

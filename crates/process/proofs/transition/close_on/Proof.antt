@@ -1,8 +1,9 @@
--- `process::transition::close_on` meets its contract. Assumes nothing.
+-- `process::transition::close_on` meets its contract: a law for each way. Assumes nothing.
 use borrow.Author.Needs.{needs}
 use native.Mathlib.Omega.{arith}
-use mathlib.Core.Path.{_∙_}
-use Rattle.process.proofs.Closing.{closed-on}
+use mathlib.Core.Path.{ap, _∙_}
+use Rattle.process.specs.Heard.{messagesAs}
+use Rattle.process.proofs.Closing.{closed-own, closed-nothing, closed-data, closed-commit}
 use Rattle.process.proofs.transition.close_on.Statement.{statement}
 use Rattle.process.proofs.transition.close_on.Tie as tie
 
@@ -15,17 +16,64 @@ slice-read-round c = search needs
 number-at-requires : tie.Need-number-at-requires
 number-at-requires c κs = search needs
 
-receive-requires : tie.Need-receive-requires
-receive-requires c κs = search needs
-
-write-after-requires : tie.Need-write-after-requires
-write-after-requires c κs = search needs
+decide-requires : tie.Need-decide-requires
+decide-requires c κs = search needs
 
 same-length : tie.Need-same-length
 same-length c = search needs
 
 returns : tie.Need-returns
-returns c = c .before .before .write-after .ensures ∙ closed-on _ _ _ _ (omega arith) (c .before .before .before .before .before .number-at .ensures) (c .before .before .before .before .receive .ensures)
+returns c =
+    c .before .before .decide .ensures
+    ∙ closed-own _ _ _ (omega arith) (omega arith) (c .before .before .before .before .number-at .ensures)
+
+enum-told : tie.Need-enum-told
+enum-told c = search needs
+
+number-at-requires-2 : tie.Need-number-at-requires-2
+number-at-requires-2 c κs = search needs
+
+go-on-requires : tie.Need-go-on-requires
+go-on-requires c κs = search needs
+
+enum-known-messages : tie.Need-enum-known-messages
+enum-known-messages c = search needs
+
+go-on-requires-2 : tie.Need-go-on-requires-2
+go-on-requires-2 c κs = search needs
+
+enum-known-messages-2 : tie.Need-enum-known-messages-2
+enum-known-messages-2 c = search needs
+
+decide-requires-2 : tie.Need-decide-requires-2
+decide-requires-2 c κs = search needs
+
+same-length-2 : tie.Need-same-length-2
+same-length-2 c = search needs
+
+returns-2 : tie.Need-returns-2
+unfolding messagesAs
+returns-2 c =
+    c .before .before .go-on .ensures
+    ∙ closed-nothing _ _ _ (λ e. omega arith) (omega arith) (c .before .before .before .before .number-at2 .ensures) (ap messagesAs (c .before .before .before .before .before .before .enum-told .given .1))
+
+same-length-3 : tie.Need-same-length-3
+same-length-3 c = search needs
+
+returns-3 : tie.Need-returns-3
+unfolding messagesAs
+returns-3 c =
+    c .before .before .go-on2 .ensures
+    ∙ closed-data _ _ _ (λ e. omega arith) (ap messagesAs (c .before .before .before .before .before .messages .given .1))
+
+same-length-4 : tie.Need-same-length-4
+same-length-4 c = search needs
+
+returns-4 : tie.Need-returns-4
+unfolding messagesAs
+returns-4 c =
+    c .before .before .decide2 .ensures
+    ∙ closed-commit _ _ _ (λ e. omega arith) (ap messagesAs (c .before .before .before .before .before .messages2 .given .1))
 
 pub close-on-spec : {M : Type 1} → statement M
 close-on-spec =
@@ -34,7 +82,19 @@ close-on-spec =
     slice-read-process
     slice-read-round
     number-at-requires
-    receive-requires
-    write-after-requires
+    decide-requires
     same-length
-    returns)
+    returns
+    enum-told
+    number-at-requires-2
+    go-on-requires
+    enum-known-messages
+    go-on-requires-2
+    enum-known-messages-2
+    decide-requires-2
+    same-length-2
+    returns-2
+    same-length-3
+    returns-3
+    same-length-4
+    returns-4)
