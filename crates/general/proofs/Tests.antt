@@ -1,5 +1,5 @@
--- Tests: what both sides of a conjunction say, cases on an order and on an equality, and bounds of a choice. Assumes nothing.
-use mathlib.Core.Path.{_≡_, refl}
+-- Tests: what both sides of a conjunction say, tests that say the same, cases on an order and on an equality, and bounds of a choice. Assumes nothing.
+use mathlib.Core.Path.{_≡_, refl, sym}
 use mathlib.Core.Bool.{Bool, true, false, cond, _&&_}
 use Prim.Native.Nat.{ℕ, _≤_, _<_}
 use lib.Dec.{leb, eqb}
@@ -9,6 +9,17 @@ use borrow.Author.Tests.{leb-true, leb-false, eqb-true, eqb-false}
 pub both : (a b : Bool) → (a && b) ≡ true → (a ≡ true) × (b ≡ true)
 both true b e = (refl, e)
 both false b e = (e, cc)
+
+-- A test that holds only where nothing does is false.
+pub refuted : (b : Bool) → (b ≡ true → ⊥) → false ≡ b
+refuted true h = absurd (h refl)
+refuted false h = refl
+
+-- Two tests that say the same are the same.
+pub same-test : (a b : Bool) → (a ≡ true → b ≡ true) → (b ≡ true → a ≡ true) → a ≡ b
+same-test true b f g = sym (f refl)
+same-test false true f g = g refl
+same-test false false f g = refl
 
 -- By cases on an order.
 pub by-order : {C : Type 0} (a b : ℕ) → (a ≤ b → C) → (b < a → C) → C

@@ -13,20 +13,20 @@ use Rattle.process.specs.Close.{stateAfter, closedOn}
 use Rattle.process.proofs.Bytes.{value-from}
 
 -- The process, n and t of a state, with another round, mark and value.
-abbrev pub withRound : List ℕ → (round mark v : ℕ) → PartState
-withRound b round mark v =
+abbrev pub withMark : List ℕ → (round mark v : ℕ) → PartState
+withMark b round mark v =
     record { process = getD b 0 0; processes = getD b 1 0; resilience = getD b 2 0; round = round; mark = mark; value = v }
 
 module _ (b : List ℕ) (v : ℕ) where
-  pub after-decides : stateBytes (withRound b (getD b 3 0) 1 v) ≡ stateBytes (stateAfter (stateFrom b) (decides v))
+  pub after-decides : stateBytes (withMark b (getD b 3 0) 1 v) ≡ stateBytes (stateAfter (stateFrom b) (decides v))
   unfolding stateAfter stateFrom
   after-decides = refl
 
-  pub after-last : getD b 3 0 ≡ getD b 2 0 + 1 → stateBytes (withRound b (getD b 3 0) 2 v) ≡ stateBytes (stateAfter (stateFrom b) (continues v))
+  pub after-last : getD b 3 0 ≡ getD b 2 0 + 1 → stateBytes (withMark b (getD b 3 0) 2 v) ≡ stateBytes (stateAfter (stateFrom b) (continues v))
   unfolding stateAfter stateFrom
   after-last h = rw (eq-eqb (getD b 3 0) (suc (getD b 2 0)) (rw add-one at h))
 
-  pub after-earlier : (getD b 3 0 ≡ getD b 2 0 + 1 → ⊥) → stateBytes (withRound b (getD b 3 0 + 1) 0 v) ≡ stateBytes (stateAfter (stateFrom b) (continues v))
+  pub after-earlier : (getD b 3 0 ≡ getD b 2 0 + 1 → ⊥) → stateBytes (withMark b (getD b 3 0 + 1) 0 v) ≡ stateBytes (stateAfter (stateFrom b) (continues v))
   unfolding stateAfter stateFrom
   after-earlier h = rw (ne-eqb (getD b 3 0) (suc (getD b 2 0)) (rw add-one at h), add-one)
 

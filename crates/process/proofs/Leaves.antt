@@ -12,7 +12,8 @@ use Rattle.protocol.specs.Message.{Messages}
 use Rattle.process.specs.PartState.{stateBytes, stateFrom, identityValid, stateValid, stateRefusal, ValidBytes}
 use Rattle.process.specs.Start.{startState, startRefusal, startBytes}
 use Rattle.process.specs.Close.{heardBy, closedOn, heardRefusal, closeRefusal, closeState}
-use Rattle.process.proofs.Valid.{identity-says, both}
+use Rattle.general.proofs.Tests.{both}
+use Rattle.process.proofs.Valid.{identity-says}
 use Rattle.process.proofs.Opened.{Opened, opened}
 use Rattle.process.proofs.Operations.{start-written, close-closed}
 use Rattle.process.proofs.StaysValid.{within-valid, valid-bytes, open-bytes, closed-on-valid}

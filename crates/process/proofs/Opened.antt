@@ -8,7 +8,8 @@ use lib.Dec.{eqb, leb}
 use lib.ListN.{length, getD}
 use borrow.Author.Tests.{eqb-true, leb-true, le-leb}
 use Rattle.process.specs.PartState.{fieldsValid, stateValid, stateFrom, stateRefusal}
-use Rattle.process.proofs.Valid.{Identity, Within, round-within, fields-say, both, refuted, same-test}
+use Rattle.general.proofs.Tests.{both, refuted, same-test}
+use Rattle.process.proofs.Valid.{Identity, Within, round-within, fields-say}
 use Rattle.process.proofs.StaysValid.{within-valid}
 
 pub record Opened (b : List ℕ) : Type 0 where
