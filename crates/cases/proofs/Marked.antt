@@ -19,7 +19,8 @@ use Rattle.protocol.specs.Run.{initial, withRound, runTo, runOf, crashesOf}
 use Rattle.lines.specs.Digit.{digitValue, isDigit}
 use Rattle.lines.specs.Line.{scan, closed, unclosed, linesFrom, linesOf}
 use Rattle.ticket.specs.Reading.{proceed, readFrom}
-use Rattle.ticket.specs.Accept.{isKind, acceptHeader, afterProposal, acceptProposal, failureLine, placesCrash, allBetween, suitsStep, withCrash, acceptCrash, acceptFailure, accept}
+use Rattle.checks.specs.FailureLine.{placesCrash, allBetween, suitsStep}
+use Rattle.kinds.specs.Accept.{isKind, acceptHeader, afterProposal, acceptProposal, failureLine, withCrash, acceptCrash, acceptFailure, accept}
 use Rattle.ticket.specs.Ticket.{atEnd, readTicket}
 use Rattle.result.specs.HexText.{digitOf, hexDigits, hexLine}
 use Rattle.result.specs.ResultLine.{endBytes, processLine, lastLine, joined, resultLines, resultText, resultSize, refusalLine}

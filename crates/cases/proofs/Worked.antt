@@ -25,7 +25,8 @@ use Rattle.protocol.specs.Settling.{valuesHeld, allAre, oneValue, qualifies}
 use Rattle.lines.specs.Digit.{digitValue, isDigit}
 use Rattle.lines.specs.Line.{scan, closed, unclosed, linesFrom, linesOf}
 use Rattle.ticket.specs.Reading.{proceed, readFrom}
-use Rattle.ticket.specs.Accept.{isKind, acceptHeader, afterProposal, acceptProposal, failureLine, placesCrash, allBetween, suitsStep, withCrash, acceptCrash, acceptFailure, accept}
+use Rattle.checks.specs.FailureLine.{placesCrash, allBetween, suitsStep}
+use Rattle.kinds.specs.Accept.{isKind, acceptHeader, afterProposal, acceptProposal, failureLine, withCrash, acceptCrash, acceptFailure, accept}
 use Rattle.ticket.specs.Ticket.{atEnd, readTicket}
 use Rattle.cases.specs.Table.{textOf, case1, case9}
 use Rattle.cases.specs.Worked.{qualifiesIn, boundsOf}

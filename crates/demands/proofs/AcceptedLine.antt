@@ -8,8 +8,10 @@ use borrow.Author.Tests.{eqb-true}
 use lib.Dec.{eqb, leb}
 use lib.ListN.{length, getD}
 use Rattle.protocol.specs.Instance.{Instance, crashes, duringCommits}
-use Rattle.ticket.specs.Reading.{Reading, accepted, refused, Step, next, refuse, proceed}
-use Rattle.ticket.specs.Accept.{Stage, header, proposals, failures, ended, isKind, acceptHeader, acceptProposal, failureLine, placesCrash, suitsStep, faultBy, withCrash, acceptCrash, acceptFailure, accept}
+use Rattle.kinds.specs.Step.{Step, next, refuse}
+use Rattle.ticket.specs.Reading.{Reading, accepted, refused, proceed}
+use Rattle.checks.specs.FailureLine.{placesCrash, suitsStep, faultBy}
+use Rattle.kinds.specs.Accept.{Stage, header, proposals, failures, ended, isKind, acceptHeader, acceptProposal, failureLine, withCrash, acceptCrash, acceptFailure, accept}
 use Rattle.general.proofs.Tests.{both}
 use Rattle.demands.specs.PairedTexts.{CommitLine}
 use Rattle.demands.proofs.PairedFaults.{commit-fault}

@@ -9,8 +9,10 @@ use Rattle.general.proofs.Tests.{by-equal}
 use Rattle.protocol.specs.Instance.{Instance, correct, crashes, duringCommits, pointFrom, faultOf}
 use Rattle.protocol.specs.WellFormed.{PointAllowed, FaultAllowed}
 use Rattle.protocol.specs.Consensus.{LinePaired, Paired}
-use Rattle.ticket.specs.Accept.{FailureLine, placesCrash, suitsStep, faultBy, withCrash}
-use Rattle.ticket.proofs.CrashAllowed.{Placed, crash-allowed}
+use Rattle.checks.specs.declared.FailureLine.{FailureLine}
+use Rattle.checks.specs.FailureLine.{placesCrash, suitsStep, faultBy}
+use Rattle.kinds.specs.Accept.{withCrash}
+use Rattle.checks.proofs.CrashAllowed.{Placed, crash-allowed}
 
 -- A line of the commit step crashes its process in its own round.
 pub commit-fault : (n t last : ℕ) (l : FailureLine) → placesCrash n t last l ≡ true → suitsStep n l ≡ true → l .step ≡ 2

@@ -10,10 +10,11 @@ use Rattle.general.proofs.Lists.{getD-repeated}
 use Rattle.protocol.specs.Instance.{Instance, correct, faultOf, withinLimits}
 use Rattle.protocol.specs.Consensus.{same, moreCommits, missing, Paired}
 use Rattle.lines.specs.Line.{Line, bytes, noLine}
-use Rattle.ticket.specs.Reading.{Reading, accepted, refused, next, readFrom}
-use Rattle.ticket.specs.Accept.{Stage, header, proposals, failures, ended, isKind, acceptHeader, afterProposal, acceptProposal, failureLine, accept}
+use Rattle.kinds.specs.Step.{next}
+use Rattle.ticket.specs.Reading.{Reading, accepted, refused, readFrom}
+use Rattle.kinds.specs.Accept.{Stage, header, proposals, failures, ended, isKind, acceptHeader, afterProposal, acceptProposal, failureLine, accept}
 use Rattle.ticket.specs.Ticket.{ticketLimit, atEnd, readTicket}
-use Rattle.ticket.proofs.CrashAllowed.{crash-placed}
+use Rattle.checks.proofs.CrashAllowed.{crash-placed}
 use Rattle.demands.specs.PairedTexts.{CommitLine, PairedLines, noLines, sameLine, countNoLower, missingLine, PairedTexts}
 use Rattle.demands.proofs.AcceptedLine.{refused-accepted, refuse-next, passes-if, proceeds, Taken, takenEnd, takenCrash, taken, commit-at, not-the-end, stated-fault}
 use Rattle.demands.proofs.PairedFaults.{PairedSoFar, so-far-paired, so-far-both, so-far-first}

@@ -1,4 +1,5 @@
 pub mod Digit
+pub mod KnownDigit
 pub mod DigitCount
 pub mod Bytes
 pub mod FirstLine

@@ -1,6 +1,6 @@
 // The lines of a text, read in place: the value of a digit, a cursor that reads one line, and the bytes of a line.
 ghost use mathlib.Core.Path.{_≡_};
-ghost use Prim.Native.Nat.{_+_, _*_, _≤_};
+ghost use Prim.Native.Nat.{_+_, _*_, _≤_, _<_};
 ghost use lib.ListN.{drop};
 ghost use Rattle.general.specs.BigEndian.{number};
 ghost use Rattle.lines.specs.Digit.{digitValue};
@@ -91,14 +91,22 @@ impl Cursor {
     }
 }
 
+// The value of a byte that is a digit, with no test: a letter has bit 6, and its low bits count from 1.
+fn known_digit(c: u8) -> u8
+    requires { ⌜ digitValue c < 16 ⌝ }
+    ensures { λ r. ⌜ r ≡ digitValue c ⌝ }
+{
+    c % 16 + c / 64 * 9
+}
+
 // Byte k of the line whose digits begin at `at`, read in place.
 pub fn line_byte(text: &[u8], at: usize, k: usize) -> u8
     requires { ⌜ HoldsBytes (now text) (at + 2 * k) 1 ⌝ }
     ensures { λ r. ⌜ r ≡ byteAt (now (text .entry)) (at + 2 * k) ⌝ }
 {
     let place = at + 2 * k;
-    let high = digit_value(text[place]);
-    let low = digit_value(text[place + 1]);
+    let high = known_digit(text[place]);
+    let low = known_digit(text[place + 1]);
     high * 16 + low
 }
 

@@ -1,8 +1,10 @@
 // Running and settling a ticket (document 01, 'The result' and 'Refused calls'): total on every text and every buffer.
 ghost use Rattle.ticket.specs.Ticket.{readTicket};
+ghost use Rattle.ticket.specs.Header.{AfterHeader};
 ghost use Rattle.running.specs.Settle.{Settles};
 ghost use Rattle.running.specs.Answer.{Ran, settlingOf};
 use ticket::Answer;
+use ticket::HeaderRead;
 
 // What running answers: the bytes of the result, or the number of a refusal and its line.
 pub enum RunAnswer {
@@ -16,36 +18,58 @@ pub enum SettleAnswer {
     Unsettled(u8, u16),
 }
 
-// Runs a ticket and writes its result to the front of a buffer.
-pub fn run_ticket(text: &[u8], out: &mut [u8]) -> RunAnswer
+// Runs a ticket whose header says n and t, from its second line on, which begins at `at`.
+fn run_rest(text: &[u8], n: u8, t: u8, at: usize, out: &mut [u8]) -> RunAnswer
+    requires { ⌜ AfterHeader (now text) n t at ⌝ }
     ensures { λ r. ⌜ Ran (now (text .entry)) (now (out .entry)) (now (out .exit)) r ⌝ }
 {
-    let read = ticket::read_ticket(text);
+    let read = ticket::read_rest(text, n, t, at);
     let answer = read.answer;
     if let Answer::Refused(number, line) = answer {
         return RunAnswer::Refused(number, line);
     }
-    let x = read.table;
-    let n = x.n;
-    let size = 17 * (n as usize + 1);
+    let size = 17 * (read.table.n as usize + 1);
     if out.len() < size {
         return RunAnswer::Refused(9, 0);
     }
-    let run = rounds::run_all(x);
-    let f = rounds::crash_count(x, run);
-    result::write_result(out, n, run, f);
+    let run = rounds::run_all(read.table);
+    let f = rounds::crash_count(read.table, run);
+    result::write_result(out, read.table.n, run, f);
     RunAnswer::Written(size)
 }
 
-// Names a round at whose end all processes not crashed hold one value: the run's last.
-pub fn settle(text: &[u8]) -> SettleAnswer
+// Runs a ticket and writes its result to the front of a buffer.
+pub fn run_ticket(text: &[u8], out: &mut [u8]) -> RunAnswer
+    ensures { λ r. ⌜ Ran (now (text .entry)) (now (out .entry)) (now (out .exit)) r ⌝ }
+{
+    let header = ticket::read_header(text);
+    match header {
+        HeaderRead::Limits(n, t, at) => run_rest(text, n, t, at, out),
+        HeaderRead::Refused(number, line) => RunAnswer::Refused(number, line),
+    }
+}
+
+// Settles a ticket whose header says n and t, from its second line on, which begins at `at`.
+fn settle_rest(text: &[u8], n: u8, t: u8, at: usize) -> SettleAnswer
+    requires { ⌜ AfterHeader (now text) n t at ⌝ }
     ensures { λ r. ⌜ Settles (readTicket (now (text .entry))) (settlingOf r) ⌝ }
 {
-    let read = ticket::read_ticket(text);
+    let read = ticket::read_rest(text, n, t, at);
     let answer = read.answer;
     if let Answer::Refused(number, line) = answer {
         return SettleAnswer::Unsettled(number, line);
     }
     let run = rounds::run_all(read.table);
     SettleAnswer::Round(run.rounds)
+}
+
+// Names a round at whose end all processes not crashed hold one value: the run's last.
+pub fn settle(text: &[u8]) -> SettleAnswer
+    ensures { λ r. ⌜ Settles (readTicket (now (text .entry))) (settlingOf r) ⌝ }
+{
+    let header = ticket::read_header(text);
+    match header {
+        HeaderRead::Limits(n, t, at) => settle_rest(text, n, t, at),
+        HeaderRead::Refused(number, line) => SettleAnswer::Unsettled(number, line),
+    }
 }

@@ -5,7 +5,8 @@ use mathlib.Core.Bool.{Bool, true, false, cond, not}
 use Prim.Native.Nat.{ℕ, suc}
 use Rattle.general.proofs.Bytes.{Bytes}
 use Rattle.lines.specs.Line.{Line, bytes, noLine}
-use Rattle.ticket.specs.Reading.{Reading, accepted, refused, Step, next, refuse, proceed, readFrom}
+use Rattle.kinds.specs.Step.{Step, next, refuse}
+use Rattle.ticket.specs.Reading.{Reading, accepted, refused, proceed, readFrom}
 use Rattle.ticket.proofs.LineBytes.{Lines}
 
 -- The next stage, if there is one, has the property.

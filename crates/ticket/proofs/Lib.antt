@@ -1,12 +1,8 @@
 pub mod LineBytes
 pub mod Keeping
-pub mod CrashAllowed
+pub mod FaultsStated
 pub mod WellFormed
-pub mod Sets
-pub mod CheckAnswers
-pub mod LineAnswers
-pub mod TableStages
 pub mod CrashTable
-pub mod PlaceStages
+pub mod HeaderAnswers
 pub mod Reached
 pub mod RefusalRange

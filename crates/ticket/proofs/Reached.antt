@@ -1,11 +1,10 @@
--- Where the reading of a ticket stands between two lines, and what the next line makes of it. Assumes nothing.
+-- Where the reading of a ticket stands between two lines behind its header, and what the next line makes of it. Assumes nothing.
 use mathlib.Core.List.{List}
 use mathlib.Core.Path.{_≡_, refl, sym, ap, _∙_, subst}
 use Prim.Native.Nat.{ℕ, suc, _+_, _≤_, _<_, min}
 use native.Mathlib.Numerals.{add-one}
 use native.Mathlib.Omega.{arith}
 use lib.ListN.{length, drop, replicate, length-take, length-set}
-use borrow.Author.Tests.{le-ltb, lt-ltb}
 use Rattle.general.proofs.Bytes.{Bytes}
 use Rattle.lines.specs.Line.{linesOf}
 use Rattle.lines.specs.Bytes.{bytesAt}
@@ -18,28 +17,24 @@ use Rattle.lines.proofs.Read.{read-no-line, lines-at-end}
 use Rattle.protocol.specs.Instance.{Instance}
 use Rattle.tables.specs.InstanceReading.{instanceOf}
 use Rattle.tables.specs.declared.InstanceTable.{InstanceTable}
-use Rattle.ticket.specs.Reading.{refused, next, proceed, readFrom}
-use Rattle.ticket.specs.Accept.{failures, accept}
-use Rattle.ticket.specs.Ticket.{ticketLimit, atEnd, readTicket}
-use Rattle.ticket.specs.Progress.{lineOf, stageOf, stepOf, Storable, HasPlaces, Holds, withLimits, withValue}
-use Rattle.ticket.specs.declared.checks.CrashLine.{CrashLine}
-use Rattle.ticket.specs.declared.accept.Place.{Place}
-use Rattle.ticket.specs.declared.accept.Place.the-variants.{Header, Proposals, Failures, Ended}
-use Rattle.ticket.specs.declared.accept.LineAnswer.{LineAnswer}
-use Rattle.ticket.specs.declared.accept.LineAnswer.the-variants.{Limits, Proposal, Crash, End, Refused}
+use Rattle.kinds.specs.Step.{next}
+use Rattle.ticket.specs.Reading.{refused, proceed, readFrom}
+use Rattle.kinds.specs.Accept.{failures, accept}
+use Rattle.ticket.specs.Ticket.{atEnd, readTicket}
+use Rattle.ticket.specs.Header.{AfterHeader}
+use Rattle.kinds.specs.Progress.{stageOf, stepOf, Storable, HasPlaces, Holds, withValue}
+use Rattle.checks.specs.declared.FailureLine.{FailureLine}
+use Rattle.kinds.specs.declared.Place.{Place}
+use Rattle.kinds.specs.declared.Place.the-variants.{Proposals, Failures, Ended}
+use Rattle.kinds.specs.declared.LineAnswer.{LineAnswer}
+use Rattle.kinds.specs.declared.LineAnswer.the-variants.{Proposal, Crash, End, Refused}
 use Rattle.ticket.proofs.Keeping.{Keeps}
 use Rattle.ticket.proofs.CrashTable.{stored, Full, full-roomy, full-stored, crash-stored}
-use Rattle.ticket.proofs.WellFormed.{StageAllowed, stage-keeps}
-
--- Too long a text.
-pub too-long : (text : List ℕ) → ticketLimit < length text → refused 1 0 ≡ readTicket text
-unfolding readTicket
-too-long text h = rw (lt-ltb ticketLimit (length text) h)
+use Rattle.ticket.proofs.WellFormed.{StageAllowed, first-allowed, stage-keeps}
 
 -- A stage that is allowed has its places in the table.
 pub allowed-places : (place : Place) (table : InstanceTable) → length (table .values) ≡ 64 → StageAllowed (stageOf place table) → HasPlaces place (table .n)
 unfolding StageAllowed stageOf HasPlaces instanceOf
-allowed-places Header table h g = tt
 allowed-places (Proposals count) table h g =
     let few : min count (length (table .values)) < table .n = rw length-take at (g .some-missing) in
     (omega arith, g .limits .at-most-64)
@@ -48,14 +43,12 @@ allowed-places Ended table h g = tt
 
 -- Up to the failure lines no process has a crash round.
 unfoldable pub NoCrash : Place → InstanceTable → Type 0
-NoCrash Header table = table .rounds ≡ replicate 64 0
 NoCrash (Proposals count) table = table .rounds ≡ replicate 64 0
 NoCrash (Failures lines last) table = Unit {0}
 NoCrash Ended table = Unit {0}
 
 no-rounds : (place : Place) (table : InstanceTable) → table .rounds ≡ replicate 64 0 → NoCrash place table
 unfolding NoCrash
-no-rounds Header table h = h
 no-rounds (Proposals count) table h = h
 no-rounds (Failures lines last) table h = tt
 no-rounds Ended table h = tt
@@ -63,7 +56,6 @@ no-rounds Ended table h = tt
 -- So the table holds what is known at its place.
 held : (place : Place) (table : InstanceTable) → length (table .values) ≡ 64 → NoCrash place table → Holds place (table .n) (table .t) table
 unfolding NoCrash Holds
-held Header table h g = tt
 held (Proposals count) table h g = record { processes = refl; places = h; no-rounds = g }
 held (Failures lines last) table h g = (refl, refl)
 held Ended table h g = tt
@@ -82,18 +74,18 @@ pub record Reached (text : List ℕ) (table : InstanceTable) (at : ℕ) (place :
 pub same-place : {text : List ℕ} {table after : InstanceTable} {at k : ℕ} {place to : Place} → table ≡ after → place ≡ to → Reached text after at to k → Reached text table at place k
 same-place e p h = rw (e, p) h
 
-pub reached-start : (text : List ℕ) (table : InstanceTable) → length text ≤ 4096 → Full table → table .rounds ≡ replicate 64 0
-    → Reached text table 0 Header 1
-unfolding readTicket stageOf StageAllowed
-reached-start text table h g none =
+pub reached-start : (text : List ℕ) (table : InstanceTable) (at : ℕ) → AfterHeader text (table .n) (table .t) at → Full table → table .rounds ≡ replicate 64 0
+    → Reached text table at (Proposals 0) 2
+unfolding stageOf StageAllowed
+reached-start text table at header g none =
     record {
-      short = h;
-      inside = omega arith;
-      counted = omega arith;
+      short = header .short;
+      inside = header .inside;
+      counted = omega (arith, header .behind);
       full = g;
-      no-crash = no-rounds Header table none;
-      allowed = tt;
-      same = rw (le-ltb ticketLimit (length text) h);
+      no-crash = no-rounds (Proposals 0) table none;
+      allowed = first-allowed (table .n) (table .t) (header .limits);
+      same = header .same;
     }
 
 module _ (text : List ℕ) (table : InstanceTable) (at : ℕ) (place : Place) (k : ℕ) (here : Reached text table at place k) where
@@ -118,10 +110,6 @@ module _ (text : List ℕ) (table : InstanceTable) (at : ℕ) (place : Place) (k
     proceeds = here .same ∙ ap (readFrom accept atEnd (stageOf place table) k) (line .lines)
 
     -- The stores keep the places.
-    full-limits : (n t : ℕ) → Full (withLimits table n t)
-    full-limits n t = let f = here .full in
-        record { all-values = f .all-values; all-rounds = f .all-rounds; all-steps = f .all-steps; all-sets = f .all-sets; all-counts = f .all-counts }
-
     full-value : (count v : ℕ) → Full (withValue table count v)
     full-value count v = let f = here .full in
         record { all-values = rw length-set (f .all-values); all-rounds = f .all-rounds; all-steps = f .all-steps; all-sets = f .all-sets; all-counts = f .all-counts }
@@ -153,18 +141,12 @@ module _ (text : List ℕ) (table : InstanceTable) (at : ℕ) (place : Place) (k
       pub proposal-place : {count v : ℕ} {to : Place} → answer ≡ Proposal count v to → count < 64
       proposal-place e = let known = storable _ e in omega (arith, known .1)
 
-      pub crash-place : {lines : ℕ} {l : CrashLine} → answer ≡ Crash lines l → (1 ≤ l .process) × (l .process ≤ table .n) × (table .n ≤ 64) × (1 ≤ l .round)
+      pub crash-place : {lines : ℕ} {l : FailureLine} → answer ≡ Crash lines l → (1 ≤ l .process) × (l .process ≤ table .n) × (table .n ≤ 64) × (1 ≤ l .round)
       crash-place e = storable _ e
 
       pub reached-refused : {number : ℕ} → answer ≡ Refused number → refused number k ≡ readTicket text
       unfolding proceed
       reached-refused e = sym (proceeds ∙ rw (← step _ e))
-
-      pub reached-limits : {n t : ℕ} → answer ≡ Limits n t → Reached text (withLimits table n t) (then .at) (Proposals 0) (k + 1)
-      unfolding NoCrash stageOf
-      reached-limits {n} {t} e =
-          let first : place ≡ Header = storable _ e in
-          goes-on (Proposals 0) (withLimits table n t) (step _ e) (full-limits n t) (subst (λ (p : Place). NoCrash p table) first (here .no-crash))
 
       pub reached-proposal : {count v : ℕ} {to : Place} → answer ≡ Proposal count v to → Reached text (withValue table count v) (then .at) to (k + 1)
       unfolding NoCrash
@@ -173,13 +155,13 @@ module _ (text : List ℕ) (table : InstanceTable) (at : ℕ) (place : Place) (k
           let none : table .rounds ≡ replicate 64 0 = subst (λ (p : Place). NoCrash p table) at-count (here .no-crash) in
           goes-on to (withValue table count v) (step _ e) (full-value count v) (no-rounds to (withValue table count v) none)
 
-      pub reached-crash : {lines : ℕ} {l : CrashLine} → answer ≡ Crash lines l → Reached text (stored table (lineOf l)) (then .at) (Failures lines (l .process)) (k + 1)
+      pub reached-crash : {lines : ℕ} {l : FailureLine} → answer ≡ Crash lines l → Reached text (stored table l) (then .at) (Failures lines (l .process)) (k + 1)
       unfolding NoCrash stageOf
       reached-crash {lines} {l} e =
           let inside = crash-place e in
-          let after = crash-stored table (lineOf l) (full-roomy table (here .full) (inside .2)) (inside .0) (inside .1) (inside .3) in
-          goes-on (Failures lines (l .process)) (stored table (lineOf l)) (ap (λ (x : Instance). next (failures x lines (l .process))) after ∙ step _ e)
-          (full-stored table (lineOf l) (here .full)) tt
+          let after = crash-stored table l (full-roomy table (here .full) (inside .2)) (inside .0) (inside .1) (inside .3) in
+          goes-on (Failures lines (l .process)) (stored table l) (ap (λ (x : Instance). next (failures x lines (l .process))) after ∙ step _ e)
+          (full-stored table l (here .full)) tt
 
       pub reached-ended : answer ≡ End → Reached text table (then .at) Ended (k + 1)
       unfolding NoCrash stageOf

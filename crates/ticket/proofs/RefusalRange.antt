@@ -9,8 +9,10 @@ use lib.ListN.{length, getD}
 use borrow.Author.Tests.{ltb-false}
 use Rattle.protocol.specs.Instance.{withinLimits}
 use Rattle.lines.specs.Line.{Line, bytes, noLine, Scan, even, odd, broken, scan, closed, unclosed, linesFrom, linesOf}
-use Rattle.ticket.specs.Reading.{Reading, accepted, refused, Step, next, refuse, proceed, readFrom}
-use Rattle.ticket.specs.Accept.{Stage, header, proposals, failures, ended, isKind, acceptHeader, acceptProposal, failureLine, placesCrash, suitsStep, acceptCrash, acceptFailure, accept}
+use Rattle.kinds.specs.Step.{Step, next, refuse}
+use Rattle.ticket.specs.Reading.{Reading, accepted, refused, proceed, readFrom}
+use Rattle.checks.specs.FailureLine.{placesCrash, suitsStep}
+use Rattle.kinds.specs.Accept.{Stage, header, proposals, failures, ended, isKind, acceptHeader, acceptProposal, failureLine, acceptCrash, acceptFailure, accept}
 use Rattle.ticket.specs.Ticket.{ticketLimit, atEnd, readTicket}
 
 -- A line, if it is refused, is refused with one of these numbers.

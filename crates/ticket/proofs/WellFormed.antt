@@ -14,12 +14,16 @@ use Rattle.general.proofs.BigEndian.{number-below}
 use Rattle.protocol.specs.Instance.{Instance, correct, faultOf, withinLimits}
 use Rattle.protocol.specs.WellFormed.{FaultAllowed, faultCount, WellFormed}
 use Rattle.lines.specs.Line.{linesOf}
-use Rattle.ticket.specs.Reading.{accepted, refused, next, readFrom}
-use Rattle.ticket.specs.Accept.{Stage, header, proposals, failures, ended, isKind, acceptHeader, afterProposal, acceptProposal, FailureLine, failureLine, placesCrash, suitsStep, faultBy, withCrash, acceptCrash, acceptFailure, accept}
+use Rattle.kinds.specs.Step.{next}
+use Rattle.ticket.specs.Reading.{accepted, refused, readFrom}
+use Rattle.checks.specs.declared.FailureLine.{FailureLine}
+use Rattle.checks.specs.FailureLine.{placesCrash, suitsStep, faultBy}
+use Rattle.kinds.specs.Accept.{Stage, header, proposals, failures, ended, isKind, acceptHeader, afterProposal, acceptProposal, failureLine, withCrash, acceptCrash, acceptFailure, accept}
 use Rattle.ticket.specs.Ticket.{ticketLimit, atEnd, readTicket}
 use Rattle.ticket.proofs.LineBytes.{lines-bytes}
 use Rattle.ticket.proofs.Keeping.{Keeps, Gives, keeps-if, keeps-unless, keeps-either, reading-gives}
-use Rattle.ticket.proofs.CrashAllowed.{Limits, limits-hold, crash-placed, crash-allowed, count-set, faults-none, allowed-set}
+use Rattle.checks.proofs.CrashAllowed.{Limits, limits-hold, crash-placed, crash-allowed}
+use Rattle.ticket.proofs.FaultsStated.{count-set, faults-none, allowed-set}
 
 -- All values fit four bytes.
 abbrev ValuesFit : List ℕ → Type 0
@@ -43,17 +47,17 @@ StageAllowed (proposals n t values) = ProposalsAllowed n t values
 StageAllowed (failures x lines last) = FailuresAllowed x lines
 StageAllowed (ended x) = WellFormed x
 
-header-next : (n t : ℕ) → withinLimits n t ≡ true → Keeps StageAllowed (next (proposals n t []))
-unfolding Keeps StageAllowed
-header-next n t e =
+-- Before the first proposal.
+pub first-allowed : (n t : ℕ) → withinLimits n t ≡ true → ProposalsAllowed n t []
+first-allowed n t e =
     let within = limits-hold n t e in
     record { limits = within; values-fit = λ p. omega arith; some-missing = omega arith }
 
-header-keeps : (b : List ℕ) → Keeps StageAllowed (acceptHeader b)
-unfolding acceptHeader
+pub header-keeps : (b : List ℕ) → Keeps StageAllowed (acceptHeader b)
+unfolding acceptHeader Keeps StageAllowed
 header-keeps b =
     keeps-if StageAllowed (isKind 1 3 b) 3 _ λ _.
-    keeps-if StageAllowed (withinLimits (getD b 1 0) (getD b 2 0)) 4 _ (header-next _ _)
+    keeps-if StageAllowed (withinLimits (getD b 1 0) (getD b 2 0)) 4 _ (first-allowed _ _)
 
 -- The instance after the last proposal, without any crash.
 module _ (n t : ℕ) (values : List ℕ) (limits : Limits n t) (fit : ValuesFit values)

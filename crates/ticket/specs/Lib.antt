@@ -1,5 +1,4 @@
 pub mod Reading
-pub mod Accept
 pub mod Ticket
-pub mod Progress
 pub mod Answer
+pub mod Header

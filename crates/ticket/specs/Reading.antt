@@ -2,16 +2,12 @@
 use mathlib.Core.List.{List, [], _∷_}
 use Prim.Native.Nat.{ℕ, suc}
 use Rattle.lines.specs.Line.{Line, bytes, noLine}
+use Rattle.kinds.specs.Step.{Step, next, refuse}
 
 -- A text is accepted with what it describes, or refused with the number of its refusal and its first wrong line, counted from 1 (0 if no line is wrong).
 pub data Reading (A : Type 0) : Type 0 where
   accepted : A → Reading A
   refused : ℕ → ℕ → Reading A
-
--- What a format makes of one line: it stands at another stage, or refuses the line with this number.
-pub data Step (S : Type 0) : Type 0 where
-  next : S → Step S
-  refuse : ℕ → Step S
 
 module _ {S A : Type 0} where
   -- Goes on with the next stage, or ends the reading with the refusal at line k.

@@ -7,7 +7,7 @@ use lib.ListN.{length}
 use Rattle.protocol.specs.Instance.{Instance}
 use Rattle.lines.specs.Line.{linesOf}
 use Rattle.ticket.specs.Reading.{Reading, accepted, refused, readFrom}
-use Rattle.ticket.specs.Accept.{Stage, header, proposals, failures, ended, accept}
+use Rattle.kinds.specs.Accept.{Stage, header, proposals, failures, ended, accept}
 
 -- The most bytes that a ticket has.
 abbrev pub ticketLimit : ℕ

@@ -1,19 +1,16 @@
 // Reading a ticket (document 01, 'The ticket'): from any bytes to an instance or a refusal.
-mod accept;
-mod checks;
-
-use accept::LineAnswer;
-use accept::Place;
+use kinds::HeaderAnswer;
+use kinds::LineAnswer;
+use kinds::Place;
 use lines::Cursor;
 use lines::LineRead;
 use tables::InstanceTable;
 ghost use mathlib.Core.Path.{_≡_};
-ghost use Prim.Native.Nat.{_≤_};
-ghost use lib.ListN.{length, replicate};
-ghost use Rattle.ticket.specs.Reading.{refused};
+ghost use Rattle.tables.specs.declared.InstanceTable.{InstanceTable};
 ghost use Rattle.ticket.specs.Ticket.{atEnd, readTicket};
-ghost use Rattle.ticket.specs.Progress.{stageOf};
-ghost use Rattle.ticket.specs.Answer.{readingOf};
+ghost use Rattle.kinds.specs.Progress.{stageOf};
+ghost use Rattle.ticket.specs.Answer.{readingFrom, readingOf};
+ghost use Rattle.ticket.specs.Header.{AfterHeader, HeaderSays};
 
 // The most bytes that a ticket has.
 const TICKET_LIMIT: usize = 4096;
@@ -30,70 +27,70 @@ pub struct TicketRead {
     pub table: InstanceTable,
 }
 
-// The table before the first line: no process has a crash round.
-fn blank() -> InstanceTable
-    ensures { λ r. ⌜ r .rounds ≡ replicate 64 0 ⌝ }
+// What the first line says, or the refusal of the ticket.
+pub enum HeaderRead {
+    // n and t, and the place at which the second line begins.
+    Limits(u8, u8, usize),
+    Refused(u8, u16),
+}
+
+// Reads the first line of a ticket, unless the ticket is too long.
+pub fn read_header(text: &[u8]) -> HeaderRead
+    ensures { λ r. ⌜ HeaderSays (now (text .entry)) r ⌝ }
 {
-    InstanceTable {
-        n: 0,
-        t: 0,
+    if TICKET_LIMIT < text.len() {
+        return HeaderRead::Refused(1, 0);
+    }
+    if text.len() == 0 {
+        return HeaderRead::Refused(3, 1);
+    }
+    let LineRead::Line { size, next } = reader::read_line(text, 0) else {
+        return HeaderRead::Refused(2, 1);
+    };
+    let answer = kinds::header_line(text, 0, size);
+    match answer {
+        HeaderAnswer::Limits(n, t) => HeaderRead::Limits(n, t, next.at),
+        HeaderAnswer::Refused(number) => HeaderRead::Refused(number, 1),
+    }
+}
+
+// What a text that is over at line k is answered with: accepted past its 04, and otherwise refusal 3.
+fn at_end(place: Place, k: u16) -> Answer
+    ensures { λ r. ⌜ ((x : InstanceTable) → readingFrom r x ≡ atEnd (stageOf place x) k) ⌝ }
+{
+    let Place::Ended = place else {
+        return Answer::Refused(3, k);
+    };
+    Answer::Accepted
+}
+
+// Reads the lines of a ticket behind its header, from `at` on; k is the number of the line at the cursor.
+pub fn read_rest(text: &[u8], n: u8, t: u8, at: usize) -> TicketRead
+    requires { ⌜ AfterHeader (now text) n t at ⌝ }
+    ensures { λ r. ⌜ readingOf r ≡ readTicket (now (text .entry)) ⌝ }
+{
+    let mut table = InstanceTable {
+        n,
+        t,
         values: [0u32; 64],
         rounds: [0u8; 64],
         steps: [0u8; 64],
         sets: [0u64; 64],
         counts: [0u8; 64],
-    }
-}
-
-// A ticket that is refused at line k.
-fn refused_at(number: u8, k: u16, table: InstanceTable) -> TicketRead
-    ensures { λ r. ⌜ readingOf r ≡ refused number k ⌝ }
-{
-    TicketRead {
-        answer: Answer::Refused(number, k),
-        table,
-    }
-}
-
-// A text that is over at line k: accepted past its 04, and otherwise refusal 3.
-fn finished(place: Place, table: InstanceTable, k: u16) -> TicketRead
-    ensures { λ r. ⌜ readingOf r ≡ atEnd (stageOf place table) k ⌝ }
-{
-    let Place::Ended = place else {
-        return TicketRead {
-            answer: Answer::Refused(3, k),
-            table,
-        };
     };
-    TicketRead {
-        answer: Answer::Accepted,
-        table,
-    }
-}
-
-// Reads the lines of a ticket; k is the number of the line at the cursor.
-fn read_lines(text: &[u8]) -> TicketRead
-    requires { ⌜ length (now text) ≤ 4096 ⌝ }
-    ensures { λ r. ⌜ readingOf r ≡ readTicket (now (text .entry)) ⌝ }
-{
-    let mut table = blank();
-    let mut here = Cursor::new();
-    let mut place = Place::Header;
-    let mut k: u16 = 1;
-    while here.at < text.len() {
+    let mut here = Cursor { at };
+    let mut place = Place::Proposals(0);
+    let mut k: u16 = 2;
+    let answer = loop {
+        if text.len() <= here.at {
+            break at_end(place, k);
+        }
         let LineRead::Line { size, next } = reader::read_line(text, here.at) else {
-            return refused_at(2, k, table);
+            break Answer::Refused(2, k);
         };
-        let answer = accept::accept_line(text, here.at, size, place, table.n, table.t);
-        match answer {
-            LineAnswer::Limits(n, t) => {
-                table.n = n;
-                table.t = t;
-                place = Place::Proposals(0);
-            }
+        match kinds::accept_line(text, here.at, size, place, table.n, table.t) {
             LineAnswer::Proposal(count, value, to) => {
-                let i = count as usize;
-                table.values[i] = value;
+                table.values[count as usize] = value;
                 place = to;
             }
             LineAnswer::Crash(lines, l) => {
@@ -105,20 +102,10 @@ fn read_lines(text: &[u8]) -> TicketRead
                 place = Place::Failures(lines, l.process);
             }
             LineAnswer::End => place = Place::Ended,
-            LineAnswer::Refused(number) => return refused_at(number, k, table),
+            LineAnswer::Refused(number) => break Answer::Refused(number, k),
         }
         here = next;
         k += 1;
-    }
-    finished(place, table, k)
-}
-
-// Reads a ticket, unless it is too long.
-pub fn read_ticket(text: &[u8]) -> TicketRead
-    ensures { λ r. ⌜ readingOf r ≡ readTicket (now (text .entry)) ⌝ }
-{
-    if TICKET_LIMIT < text.len() {
-        return refused_at(1, 0, blank());
-    }
-    read_lines(text)
+    };
+    TicketRead { answer, table }
 }

@@ -12,20 +12,20 @@ mul-place c = search needs
 add-place : tie.Need-add-place
 add-place c = search needs
 
-shared-slice-read-digit-value : tie.Need-shared-slice-read-digit-value
-shared-slice-read-digit-value c = search needs
+shared-slice-read-known-digit : tie.Need-shared-slice-read-known-digit
+shared-slice-read-known-digit c = search needs
 
-digit-value-requires : tie.Need-digit-value-requires
-digit-value-requires c κs = search needs
+known-digit-requires : tie.Need-known-digit-requires
+known-digit-requires c κs = let high = high-small _ _ (c .before .before .pre) in omega arith
 
-add-digit-value : tie.Need-add-digit-value
-add-digit-value c = search needs
+add-known-digit : tie.Need-add-known-digit
+add-known-digit c = search needs
 
-shared-slice-read-digit-value-2 : tie.Need-shared-slice-read-digit-value-2
-shared-slice-read-digit-value-2 c = search needs
+shared-slice-read-known-digit-2 : tie.Need-shared-slice-read-known-digit-2
+shared-slice-read-known-digit-2 c = search needs
 
-digit-value-requires-2 : tie.Need-digit-value-requires-2
-digit-value-requires-2 c κs = search needs
+known-digit-requires-2 : tie.Need-known-digit-requires-2
+known-digit-requires-2 c κs = let low = low-small _ _ (c .before .before .before .before .pre) in omega arith
 
 mul-result : tie.Need-mul-result
 mul-result c =
@@ -49,11 +49,11 @@ line-byte-spec =
     (tie.spec
     mul-place
     add-place
-    shared-slice-read-digit-value
-    digit-value-requires
-    add-digit-value
-    shared-slice-read-digit-value-2
-    digit-value-requires-2
+    shared-slice-read-known-digit
+    known-digit-requires
+    add-known-digit
+    shared-slice-read-known-digit-2
+    known-digit-requires-2
     mul-result
     add-result
     returns)

@@ -1,89 +1,37 @@
--- `running::run_ticket` meets its contract: each answer is a law of Answers, at what reading the ticket ensures. Assumes nothing.
-use mathlib.Core.Path.{_≡_}
+-- `running::run_ticket` meets its contract: the header is refused, or the rest is run. Assumes nothing.
+use mathlib.Core.Path.{subst}
 use borrow.Author.Needs.{needs}
-use native.Mathlib.Omega.{arith}
-use Rattle.tables.specs.InstanceReading.{instanceOf}
-use Rattle.ticket.specs.Reading.{accepted}
-use Rattle.ticket.specs.Ticket.{readTicket}
-use Rattle.ticket.proofs.WellFormed.{accepted-well-formed}
-use Rattle.result.specs.ResultLine.{resultSize}
-use Rattle.running.proofs.Answers.{read-refused, read-accepted, ran-refused, ran-short, ran-written}
+use Rattle.ticket.specs.Header.{HeaderSays}
+use Rattle.running.proofs.Answers.{ran-refused}
 use Rattle.running.proofs.run_ticket.Statement.{statement}
 use Rattle.running.proofs.run_ticket.Tie as tie
 
-read-ticket-requires : tie.Need-read-ticket-requires
-read-ticket-requires c κs = search needs
+read-header-requires : tie.Need-read-header-requires
+read-header-requires c κs = search needs
 
-enum-known-answer : tie.Need-enum-known-answer
-enum-known-answer c = search needs
+enum-known-header : tie.Need-enum-known-header
+enum-known-header c = search needs
 
-returns : tie.Need-returns
-returns c =
-    let read = c .before .before .before .read-ticket in
-    ran-refused _ _ _ _ (read-refused _ (read .result) (read .ensures) _ _ (c .before .answer .given .1))
+run-rest-requires : tie.Need-run-rest-requires
+run-rest-requires c κs =
+    let said = c .before .before in
+    subst (HeaderSays _) (said .header .given .1) (said .before .before .read-header .ensures)
 
-enum-told : tie.Need-enum-told
-enum-told c = search needs
-
--- Past the first return the ticket is accepted, with the instance of the table.
-ticket-read : (c : tie.After-x)
-    → readTicket (c .before .before .before .before .before .before .args .text .now)
-    ≡ accepted (instanceOf (c .before .before .before .read-ticket .result .table))
-ticket-read c = read-accepted _ _ (c .before .before .before .read-ticket .ensures) (c .before .enum-told .given .1)
-
-cast-size : tie.Need-cast-size
-cast-size c = search needs
-
-add-size : tie.Need-add-size
-add-size c = search needs
-
-mul-size : tie.Need-mul-size
-mul-size c = search needs
-
-returns-2 : tie.Need-returns-2
-returns-2 c = ran-short _ _ _ (ticket-read (c .before)) (c .if1 .taken)
-
-run-all-requires : tie.Need-run-all-requires
-run-all-requires c κs = accepted-well-formed _ _ (ticket-read (c .before))
-
-crash-count-requires : tie.Need-crash-count-requires
-unfolding instanceOf
-crash-count-requires c κs = accepted-well-formed _ _ (ticket-read (c .before .before)) .at-most-64
-
-write-result-requires : tie.Need-write-result-requires
-unfolding instanceOf resultSize
-write-result-requires c κs =
-    let branch = c .before .before .before in
-    (accepted-well-formed _ _ (ticket-read (branch .before)) .at-most-64, omega (arith, branch .if1 .left))
+enum-known-header-2 : tie.Need-enum-known-header-2
+enum-known-header-2 c = search needs
 
 same-length : tie.Need-same-length
 same-length c = search needs
 
-returns-3 : tie.Need-returns-3
-returns-3 c =
-    let wrote = c .before .before in
-    let counted = wrote .before .before in
-    let branch = counted .before .before in
-    ran-written _ _ _ (ticket-read (branch .before)) _ _ _
-    (counted .before .run-all .ensures)
-    (counted .crash-count .ensures)
-    (branch .if1 .left)
-    (wrote .write-result .ensures)
+returns : tie.Need-returns
+returns c = c .before .before .run-rest .ensures
+
+returns-2 : tie.Need-returns-2
+returns-2 c =
+    let said = c .before in
+    ran-refused _ _ _ _ (subst (HeaderSays _) (said .header2 .given .1) (said .before .before .read-header .ensures))
 
 pub run-ticket-spec : {M : Type 1} → statement M
 run-ticket-spec =
     tie.close
-    (tie.spec
-    read-ticket-requires
-    enum-known-answer
-    returns
-    enum-told
-    cast-size
-    add-size
-    mul-size
-    returns-2
-    run-all-requires
-    crash-count-requires
-    write-result-requires
-    same-length
-    returns-3)
+    (tie.spec read-header-requires enum-known-header run-rest-requires enum-known-header-2 same-length returns returns-2)

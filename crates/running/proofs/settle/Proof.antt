@@ -1,40 +1,33 @@
--- `running::settle` meets its contract: each answer is a law of Answers, at what reading the ticket ensures. Assumes nothing.
-use mathlib.Core.Path.{_≡_}
+-- `running::settle` meets its contract: the header is refused, or the rest is settled. Assumes nothing.
+use mathlib.Core.Path.{subst}
 use borrow.Author.Needs.{needs}
-use Rattle.tables.specs.InstanceReading.{instanceOf}
-use Rattle.ticket.specs.Reading.{accepted}
-use Rattle.ticket.specs.Ticket.{readTicket}
-use Rattle.ticket.proofs.WellFormed.{accepted-well-formed}
-use Rattle.running.proofs.Answers.{read-refused, read-accepted, settles-refused, settles-last}
+use Rattle.ticket.specs.Header.{HeaderSays}
+use Rattle.running.proofs.Answers.{settles-refused}
 use Rattle.running.proofs.settle.Statement.{statement}
 use Rattle.running.proofs.settle.Tie as tie
 
-read-ticket-requires : tie.Need-read-ticket-requires
-read-ticket-requires c κs = search needs
+read-header-requires : tie.Need-read-header-requires
+read-header-requires c κs = search needs
 
-enum-known-answer : tie.Need-enum-known-answer
-enum-known-answer c = search needs
+enum-known-header : tie.Need-enum-known-header
+enum-known-header c = search needs
+
+settle-rest-requires : tie.Need-settle-rest-requires
+settle-rest-requires c κs =
+    let said = c .before in
+    subst (HeaderSays _) (said .header .given .1) (said .before .before .read-header .ensures)
+
+enum-known-header-2 : tie.Need-enum-known-header-2
+enum-known-header-2 c = search needs
 
 returns : tie.Need-returns
-returns c =
-    let read = c .before .before .before .read-ticket in
-    settles-refused _ _ _ (read-refused _ (read .result) (read .ensures) _ _ (c .before .answer .given .1))
-
-enum-told : tie.Need-enum-told
-enum-told c = search needs
-
--- Past the first return the ticket is accepted, with the instance of the table.
-ticket-read : (c : tie.After-enum-told)
-    → readTicket (c .before .before .before .before .args .text .now) ≡ accepted (instanceOf (c .before .before .read-ticket .result .table))
-ticket-read c = read-accepted _ _ (c .before .before .read-ticket .ensures) (c .enum-told .given .1)
-
-run-all-requires : tie.Need-run-all-requires
-run-all-requires c κs = accepted-well-formed _ _ (ticket-read c)
+returns c = c .settle-rest .ensures
 
 returns-2 : tie.Need-returns-2
-returns-2 c = settles-last _ _ _ (ticket-read (c .before)) (c .run-all .ensures)
+returns-2 c =
+    let said = c .before in
+    settles-refused _ _ _ (subst (HeaderSays _) (said .header2 .given .1) (said .before .before .read-header .ensures))
 
 pub settle-spec : {M : Type 1} → statement M
 settle-spec =
-    tie.close
-    (tie.spec read-ticket-requires enum-known-answer returns enum-told run-all-requires returns-2)
+    tie.close (tie.spec read-header-requires enum-known-header settle-rest-requires enum-known-header-2 returns returns-2)

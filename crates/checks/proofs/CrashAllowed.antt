@@ -1,0 +1,84 @@
+-- What refusals 4, 7 and 8 let pass: a failure line that does states a fault that is allowed. Assumes nothing.
+use mathlib.Core.Path.{_≡_}
+use mathlib.Core.Bool.{Bool, true, false, cond, _&&_}
+use Prim.Native.Nat.{ℕ, suc, _-_, _≤_, _<_}
+use native.Mathlib.Omega.{arith}
+use lib.Dec.{eqb, leb}
+use borrow.Author.Tests.{ltb-true, leb-true, eqb-true, le-leb, lt-ltb}
+use Rattle.general.proofs.Tests.{both}
+use Rattle.protocol.specs.Instance.{beforeSending, duringData, duringCommits, pointFrom, withinLimits}
+use Rattle.protocol.specs.WellFormed.{PointAllowed, FaultAllowed}
+use Rattle.checks.specs.declared.FailureLine.{FailureLine}
+use Rattle.checks.specs.FailureLine.{placesCrash, allBetween, suitsStep, faultBy}
+
+-- What refusal 4 lets pass.
+pub record Limits (n t : ℕ) : Type 0 where
+  pub some-process : 1 ≤ n
+  pub at-most-64 : n ≤ 64
+  pub fewer-crashes : t < n
+
+pub limits-hold : (n t : ℕ) → withinLimits n t ≡ true → Limits n t
+unfolding withinLimits
+limits-hold n t e =
+    let outer = both _ _ e in
+    let inner = both _ _ (outer .0) in
+    record {
+      some-process = leb-true _ _ (inner .0);
+      at-most-64 = leb-true _ _ (inner .1);
+      fewer-crashes = ltb-true _ _ (outer .1);
+    }
+
+pub limits-pass : (n t : ℕ) → Limits n t → withinLimits n t ≡ true
+unfolding withinLimits
+limits-pass n t h = rw (le-leb 1 n (h .some-process), le-leb n 64 (h .at-most-64), lt-ltb t n (h .fewer-crashes))
+
+-- Refusal 8 at each step, as the two tests of the step turn out.
+step-allowed : (n p round reached count : ℕ) (atZero atOne : Bool)
+    → cond atZero (eqb reached 0 && eqb count 0)
+    (eqb round p && cond atOne (allBetween p n reached && eqb count 0) (eqb reached 0 && leb count (n - p))) ≡ true
+    → p ≤ n → PointAllowed n p round (cond atZero beforeSending (cond atOne (duringData reached) (duringCommits count)))
+unfolding PointAllowed allBetween
+step-allowed n p round reached count true atOne e h = tt
+step-allowed n p round reached count false true e h =
+    let outer = both _ _ e in
+    let between = both _ _ (both _ _ (outer .1) .0) in
+    (eqb-true _ _ (outer .0), eqb-true _ _ (between .0), ltb-true _ _ (between .1))
+step-allowed n p round reached count false false e h =
+    let outer = both _ _ e in
+    let few : count ≤ n - p = leb-true _ _ (both (eqb reached 0) _ (outer .1) .1) in
+    (eqb-true _ _ (outer .0), omega arith)
+
+-- What refusal 7 lets pass after a failure line of process `last`.
+pub record Placed (n t last : ℕ) (l : FailureLine) : Type 0 where
+  pub process-from-1 : 1 ≤ l .process
+  pub process-to-n : l .process ≤ n
+  pub process-rises : last < l .process
+  pub round-from-1 : 1 ≤ l .round
+  pub round-to-last : l .round ≤ suc t
+
+module _ (n t last : ℕ) (l : FailureLine) (placed : placesCrash n t last l ≡ true) where
+  pub crash-placed : Placed n t last l
+  unfolding placesCrash
+  crash-placed =
+      let steps = both _ _ placed in
+      let rounds = both _ _ (steps .0) in
+      let first = both _ _ (rounds .0) in
+      let rising = both _ _ (first .0) in
+      let inside = both _ _ (rising .0) in
+      record {
+        process-from-1 = leb-true _ _ (inside .0);
+        process-to-n = leb-true _ _ (inside .1);
+        process-rises = ltb-true _ _ (rising .1);
+        round-from-1 = leb-true _ _ (first .1);
+        round-to-last = leb-true _ _ (rounds .1);
+      }
+
+  -- Refusals 7 and 8 let pass a fault that is allowed.
+  pub crash-allowed : suitsStep n l ≡ true
+      → FaultAllowed n t (l .process) (faultBy l)
+  unfolding suitsStep FaultAllowed pointFrom
+  crash-allowed e = (
+    crash-placed .round-from-1,
+    crash-placed .round-to-last,
+    step-allowed n (l .process) (l .round) (l .reached) (l .count) (eqb (l .step) 0) (eqb (l .step) 1) e (crash-placed .process-to-n),
+  )

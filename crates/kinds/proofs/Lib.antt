@@ -1,0 +1,3 @@
+pub mod LineAnswers
+pub mod TableStages
+pub mod PlaceStages
