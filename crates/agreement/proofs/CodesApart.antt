@@ -2,7 +2,7 @@
 use mathlib.Core.List.{List}
 use mathlib.Core.Path.{_≡_, refl, sym, subst}
 use mathlib.Core.Bool.{Bool, true, false, cond}
-use Prim.Native.Nat.{ℕ, suc, _*_, _/_, _%_, _≤_, _<_}
+use Prim.Native.Nat.{ℕ, _/_, _%_, _≤_, _<_}
 use native.Mathlib.Omega.{arith}
 use borrow.Author.Tests.{leb-true}
 use lib.Dec.{ltb}
@@ -29,12 +29,13 @@ refusal-told most number line some few short =
     record { isRefusal = omega arith; readsNumber = omega arith; readsLine = omega arith; first = some; last = few }
 
 -- The size of a result.
-result-length : (text : List ℕ) (x : Instance) → readTicket text ≡ accepted x → length (resultText x) ≡ 17 * suc (x .processes)
-unfolding resultText resultSize
+result-length : (text : List ℕ) (x : Instance) → readTicket text ≡ accepted x → length (resultText x) ≡ resultSize (x .processes)
+unfolding resultText
 result-length text x e = length-result (runOf x) (crashesOf x) (x .processes) (states-at-end x (accepted-well-formed text x e))
 
 module _ (text : List ℕ) (room : ℕ) where
   result-told : (x : Instance) → readTicket text ≡ accepted x → running text room ≡ accepted (resultText x) → TellsSize text room (length (resultText x))
+  unfolding resultSize
   result-told x e ran =
       let formed = accepted-well-formed text x e in
       let size = result-length text x e in

@@ -2,12 +2,12 @@
 use mathlib.Core.List.{List}
 use mathlib.Core.Path.{_≡_}
 use mathlib.Core.Bool.{true}
-use Prim.Native.Nat.{ℕ, suc, _*_, _/_, _%_, _≤_, _<_}
+use Prim.Native.Nat.{ℕ, _/_, _%_, _≤_, _<_}
 use Rattle.protocol.specs.Instance.{Instance}
 use Rattle.protocol.specs.Settling.{qualifies}
 use Rattle.ticket.specs.Reading.{Reading, accepted, refused}
 use Rattle.ticket.specs.Ticket.{readTicket}
-use Rattle.result.specs.ResultLine.{resultText}
+use Rattle.result.specs.ResultLine.{resultText, resultSize}
 use Rattle.running.specs.Running.{running}
 use Rattle.agreement.specs.Code.{runCode, SettlesAs}
 
@@ -23,12 +23,12 @@ pub record TellsRefusal (most number line code : ℕ) : Type 0 where
   pub first : 1 ≤ number
   pub last : number ≤ most
 
--- The code of a result: its bytes, 17(n + 1), of the ticket's n.
+-- The code of a result: its size, by the ticket's n.
 pub record TellsSize (text : List ℕ) (room code : ℕ) : Type 0 where
   pub instance : Instance
   pub read : readTicket text ≡ accepted instance
   pub ran : running text room ≡ accepted (resultText instance)
-  pub size : code ≡ 17 * suc (instance .processes)
+  pub size : code ≡ resultSize (instance .processes)
   pub least : 34 ≤ code
   pub most : code ≤ 1105
 

@@ -16,7 +16,7 @@ use Rattle.protocol.specs.Round.{State, undecided, decided, crashed, stateOf}
 use Rattle.protocol.specs.Run.{Run}
 use Rattle.tables.specs.RunReading.{stateByEnd}
 use Rattle.result.specs.HexText.{digitOf, hexDigits, hexLine}
-use Rattle.result.specs.ResultLine.{endBytes, processLine, lastLine, joined, resultLines, resultSize, refusalLine}
+use Rattle.result.specs.ResultLine.{endBytes, processLine, lastLine, processLineSize, lastLineSize, joined, resultLines, resultSize, refusalLine}
 
 -- What `process_bytes` returns, by the process's end.
 module _ (line : List ℕ) (p end round v : ℕ) where
@@ -36,15 +36,14 @@ pub line-of : (line : List ℕ) (p : ℕ) (s s′ : State) → line ≡ 17 ∷ p
 unfolding processLine
 line-of line p s s′ e g = rw (e, g)
 
--- Every process line has 17 bytes.
-pub length-line : (p : ℕ) (s : State) → length (processLine p s) ≡ 17
+pub length-line : (p : ℕ) (s : State) → length (processLine p s) ≡ processLineSize
 unfolding processLine endBytes bytesOf hexLine hexDigits
 length-line p (undecided v) = refl
 length-line p (decided round v) = refl
 length-line p (crashed round) = refl
 
 length-last : (run : Run) (f : ℕ)
-    → length (hexLine (18 ∷ run .rounds ∷ f ∷ run .speakers ∷ bytesOf 2 (run .dataSent) ++ bytesOf 2 (run .commitsSent))) ≡ 17
+    → length (hexLine (18 ∷ run .rounds ∷ f ∷ run .speakers ∷ bytesOf 2 (run .dataSent) ++ bytesOf 2 (run .commitsSent))) ≡ lastLineSize
 unfolding bytesOf hexLine hexDigits
 length-last run f = refl
 
@@ -87,7 +86,7 @@ module _ (states : List State) where
       ∙ joined-snoc (mapFrom processLine 1 (take i states)) _
       ∙ ap (λ (p : ℕ). linesTo states i ++ processLine p (getD states i d)) place
 
-  pub length-lines : (i : ℕ) → i ≤ length states → length (linesTo states i) ≡ 17 * i
+  pub length-lines : (i : ℕ) → i ≤ length states → length (linesTo states i) ≡ processLineSize * i
   length-lines zero h = ap length lines-none
   length-lines (suc i) h =
       ap length (lines-more i (crashed 0) h)
@@ -97,58 +96,56 @@ module _ (states : List State) where
 
 -- An output whose first i lines are written, over what stood there before.
 unfoldable pub withLines : List State → List ℕ → ℕ → List ℕ
-withLines states before i = linesTo states i ++ drop (17 * i) before
+withLines states before i = linesTo states i ++ drop (processLineSize * i) before
 
 module _ (states : List State) (before : List ℕ) where
   pub with-none : withLines states before 0 ≡ before
   unfolding withLines
   with-none = rw lines-none
 
-  pub with-all : (n : ℕ) → length states ≡ n → withLines states before n ≡ joined (mapFrom processLine 1 states) ++ drop (17 * n) before
+  pub with-all : (n : ℕ) → length states ≡ n → withLines states before n ≡ joined (mapFrom processLine 1 states) ++ drop (processLineSize * n) before
   unfolding withLines
   with-all n h = rw (lines-all states n h)
 
-  pub length-with : (i : ℕ) → i ≤ length states → 17 * i ≤ length before → length (withLines states before i) ≡ length before
+  pub length-with : (i : ℕ) → i ≤ length states → processLineSize * i ≤ length before → length (withLines states before i) ≡ length before
   unfolding withLines
   length-with i h fits =
-      length-append (linesTo states i) (drop (17 * i) before) ∙ ap₂ (λ (a b : ℕ). a + b) (length-lines states i h) (length-drop (17 * i) before) ∙ omega arith
+      length-append (linesTo states i) (drop (processLineSize * i) before) ∙ ap₂ (λ (a b : ℕ). a + b) (length-lines states i h) (length-drop (processLineSize * i) before) ∙ omega arith
 
   -- The part lent for line i + 1 comes back with it.
-  pub with-more : (i : ℕ) (out line back : List ℕ) → i < length states → 17 * (i + 1) ≤ length before → out ≡ withLines states before i
+  pub with-more : (i : ℕ) (out line back : List ℕ) → i < length states → processLineSize * (i + 1) ≤ length before → out ≡ withLines states before i
       → line ≡ processLine (i + 1) (stateOf states (i + 1))
-      → back ≡ line ++ drop 17 (midOf (17 * i) (length out - 17 * i) out)
-      → putMid (17 * i) (length out - 17 * i) out back ≡ withLines states before (i + 1)
+      → back ≡ line ++ drop processLineSize (midOf (processLineSize * i) (length out - processLineSize * i) out)
+      → putMid (processLineSize * i) (length out - processLineSize * i) out back ≡ withLines states before (i + 1)
   unfolding withLines stateOf
   with-more i out line back h fits o l b =
-      let next : 17 * i + 17 ≡ 17 * (i + 1) = omega arith in
+      let next : processLineSize * i + processLineSize ≡ processLineSize * (i + 1) = omega arith in
       let place : i + 1 - 1 ≡ i = omega arith in
       let row : processLine (i + 1) (getD states (i + 1 - 1) (crashed 0)) ≡ processLine (suc i) (getD states i (crashed 0)) =
       ap₂ (λ (p k : ℕ). processLine p (getD states k (crashed 0))) (add-one i) place in
-      let wide : length line ≡ 17 = ap length l ∙ length-line (i + 1) _ in
+      let wide : length line ≡ processLineSize = ap length l ∙ length-line (i + 1) _ in
       let longer : linesTo states i ++ line ≡ linesTo states (i + 1) =
       ap (λ (m : List ℕ). linesTo states i ++ m) (l ∙ row) ∙ sym (lines-more states i (crashed 0) h) ∙ ap (linesTo states) (sym (add-one i)) in
       rw (b, o)
-      (put-part (linesTo states i) line before (17 * i) 17 (length-lines states i (omega arith)) wide (omega arith)
+      (put-part (linesTo states i) line before (processLineSize * i) processLineSize (length-lines states i (omega arith)) wide (omega arith)
       ∙ ap₂ (λ (m : List ℕ) (k : ℕ). m ++ drop k before) longer next)
 
 -- The last line, in the part that follows the others, makes the result whole.
 module _ (run : Run) (f n : ℕ) (all : length (run .states) ≡ n) where
-  length-process-lines : length (joined (mapFrom processLine 1 (run .states))) ≡ 17 * n
+  length-process-lines : length (joined (mapFrom processLine 1 (run .states))) ≡ processLineSize * n
   length-process-lines = ap length (sym (lines-all (run .states) n all)) ∙ length-lines (run .states) n (omega arith)
 
   pub length-result : length (resultLines run f) ≡ resultSize n
   unfolding resultLines lastLine resultSize
   length-result =
-      length-append (joined (mapFrom processLine 1 (run .states))) _ ∙ ap₂ (λ (a b : ℕ). a + b) length-process-lines (length-last run f) ∙ omega arith
+      length-append (joined (mapFrom processLine 1 (run .states))) _ ∙ ap₂ (λ (a b : ℕ). a + b) length-process-lines (length-last run f)
 
   pub result-written : (before out line back : List ℕ) → resultSize n ≤ length before
-      → out ≡ joined (mapFrom processLine 1 (run .states)) ++ drop (17 * n) before
+      → out ≡ joined (mapFrom processLine 1 (run .states)) ++ drop (processLineSize * n) before
       → line ≡ 18 ∷ run .rounds ∷ f ∷ run .speakers ∷ bytesOf 2 (run .dataSent) ++ bytesOf 2 (run .commitsSent)
-      → back ≡ hexLine line ++ drop 17 (midOf (17 * n) (length out - 17 * n) out)
-      → putMid (17 * n) (length out - 17 * n) out back ≡ resultLines run f ++ drop (resultSize n) before
+      → back ≡ hexLine line ++ drop lastLineSize (midOf (processLineSize * n) (length out - processLineSize * n) out)
+      → putMid (processLineSize * n) (length out - processLineSize * n) out back ≡ resultLines run f ++ drop (resultSize n) before
   unfolding resultLines lastLine resultSize
   result-written before out line back fits o l b =
-      let next : 17 * n + 17 ≡ 17 * suc n = omega arith in
       rw (b, o, l)
-      (put-part (joined (mapFrom processLine 1 (run .states))) _ before (17 * n) 17 length-process-lines (length-last run f) (omega arith)
-      ∙ ap (λ (k : ℕ). resultLines run f ++ drop k before) next)
+      (put-part (joined (mapFrom processLine 1 (run .states))) _ before (processLineSize * n) lastLineSize length-process-lines (length-last run f) (omega arith))

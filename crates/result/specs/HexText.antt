@@ -1,6 +1,6 @@
 -- Bytes written as a line of text (document 01, 'The result': "the lines below in hexadecimal, each closed by 0A").
 use mathlib.Core.List.{List, [], _∷_, _++_}
-use Prim.Native.Nat.{ℕ, _+_, _/_, _%_}
+use Prim.Native.Nat.{ℕ, _+_, _*_, _/_, _%_}
 use mathlib.Core.Bool.{cond}
 use lib.Dec.{ltb}
 
@@ -16,3 +16,7 @@ hexDigits (b ∷ bs) = digitOf (b / 16) ∷ digitOf (b % 16) ∷ hexDigits bs
 -- The digits and 0A.
 unfoldable pub hexLine : List ℕ → List ℕ
 hexLine bs = hexDigits bs ++ (10 ∷ [])
+
+-- The length of the line of k bytes.
+abbrev pub lineSize : ℕ → ℕ
+lineSize k = 2 * k + 1

@@ -1,12 +1,12 @@
 -- The lines of a result and of a refusal (document 01, 'The result').
 use mathlib.Core.List.{List, [], _∷_, _++_}
-use Prim.Native.Nat.{ℕ, suc, _*_}
+use Prim.Native.Nat.{ℕ, _+_, _*_}
 use Rattle.general.specs.BigEndian.{bytesOf}
 use Rattle.general.specs.Indexed.{mapFrom}
 use Rattle.protocol.specs.Instance.{Instance}
 use Rattle.protocol.specs.Round.{State, undecided, decided, crashed}
 use Rattle.protocol.specs.Run.{Run, runOf, crashesOf}
-use Rattle.result.specs.HexText.{hexLine}
+use Rattle.result.specs.HexText.{hexLine, lineSize}
 
 -- The end of a process (01 decided, 02 dark), the round of it, and the value, 0 if dark. No process is left undecided by the run of an accepted ticket,
 -- so that no result has the end 00 of one that is.
@@ -36,9 +36,16 @@ resultLines run f = joined (mapFrom processLine 1 (run .states)) ++ lastLine run
 unfoldable pub resultText : Instance → List ℕ
 resultText x = resultLines (runOf x) (crashesOf x)
 
--- The bytes of a result of n processes: n + 1 lines of 17.
+-- The length of a process's line, which has 8 bytes, and of the last line, which has 8 too.
+abbrev pub processLineSize : ℕ
+processLineSize = lineSize 8
+
+abbrev pub lastLineSize : ℕ
+lastLineSize = lineSize 8
+
+-- The length of a result of n processes.
 unfoldable pub resultSize : ℕ → ℕ
-resultSize n = 17 * suc n
+resultSize n = processLineSize * n + lastLineSize
 
 -- A refusal: 1F, number, line (2 bytes).
 unfoldable pub refusalLine : ℕ → ℕ → List ℕ

@@ -6,9 +6,21 @@ ghost use lib.ListN.{length, set, drop};
 ghost use Rattle.general.specs.BigEndian.{bytesOf};
 ghost use Rattle.general.specs.Indexed.{mapFrom};
 ghost use Rattle.tables.specs.RunReading.{stateByEnd, statesIn, runFrom};
-ghost use Rattle.result.specs.HexText.{digitOf, hexLine};
-ghost use Rattle.result.specs.ResultLine.{endBytes, processLine, joined, resultLines, resultSize, refusalLine};
+ghost use Rattle.result.specs.HexText.{digitOf, hexLine, lineSize};
+ghost use Rattle.result.specs.ResultLine.{endBytes, processLine, processLineSize, joined, resultLines, resultSize, refusalLine};
 use tables::RunTable;
+
+// The length of a process's line, 16 digits and 0A, and of the last line.
+const PROCESS_LINE_SIZE: usize = 17;
+
+const LAST_LINE_SIZE: usize = 17;
+
+// The length of a result of n processes.
+pub fn result_size(n: u8) -> usize
+    ensures { λ r. ⌜ r ≡ resultSize n ⌝ }
+{
+    PROCESS_LINE_SIZE * (n as usize) + LAST_LINE_SIZE
+}
 
 // The digit of a value.
 fn digit(v: u8) -> u8
@@ -29,8 +41,8 @@ fn put_byte(out: &mut [u8], at: usize, b: u8)
 
 // A line of eight bytes at the front of a part of the output.
 fn put_line(out: &mut [u8], bytes: [u8; 8])
-    requires { ⌜ 17 ≤ length (now out) ⌝ }
-    ensures { λ r. ⌜ now (out .exit) ≡ hexLine bytes ++ drop 17 (now (out .entry)) ⌝ }
+    requires { ⌜ lineSize 8 ≤ length (now out) ⌝ }
+    ensures { λ r. ⌜ now (out .exit) ≡ hexLine bytes ++ drop (lineSize 8) (now (out .entry)) ⌝ }
 {
     let mut k = 0;
     while k < 8 {
@@ -87,13 +99,13 @@ fn last_bytes(rounds: u8, f: u8, speakers: u8, sent: u16, commits: u16) -> [u8; 
 
 // The lines of the first n processes, each in the part of the output that follows the line before.
 fn put_process_lines(out: &mut [u8], n: usize, run: RunTable)
-    requires { ⌜ (n ≤ 64) × (17 * n ≤ length (now out)) ⌝ }
-    ensures { λ r. ⌜ now (out .exit) ≡ joined (mapFrom processLine 1 (statesIn n run)) ++ drop (17 * n) (now (out .entry)) ⌝ }
+    requires { ⌜ (n ≤ 64) × (processLineSize * n ≤ length (now out)) ⌝ }
+    ensures { λ r. ⌜ now (out .exit) ≡ joined (mapFrom processLine 1 (statesIn n run)) ++ drop (processLineSize * n) (now (out .entry)) ⌝ }
 {
     let mut i = 0;
     while i < n {
         let line = process_bytes((i + 1) as u8, run.ends[i], run.ended[i], run.values[i]);
-        put_line(&mut out[17 * i..], line);
+        put_line(&mut out[PROCESS_LINE_SIZE * i..], line);
         i += 1;
     }
 }
@@ -105,7 +117,7 @@ pub fn write_result(out: &mut [u8], n: u8, run: RunTable, f: u8)
 {
     let count = n as usize;
     put_process_lines(out, count, run);
-    let at = 17 * count;
+    let at = PROCESS_LINE_SIZE * count;
     let line = last_bytes(run.rounds, f, run.speakers, run.sent, run.commits);
     put_line(&mut out[at..], line);
 }

@@ -11,11 +11,11 @@ use Rattle.protocol.specs.CrashCount.{countsAsCrash, crashCount}
 use Rattle.protocol.proofs.CrashCount.{counts-once}
 use Rattle.tables.specs.declared.InstanceTable.{InstanceTable}
 use Rattle.tables.specs.declared.RunTable.{RunTable}
-use Rattle.tables.specs.InstanceReading.{instanceOf}
+use Rattle.tables.specs.InstanceReading.{faultFrom, instanceOf}
 use Rattle.tables.specs.RunReading.{statesIn}
 use Rattle.tables.proofs.Places.{length-pattern, length-statesIn}
-use Rattle.rounds.specs.Entries.{entryOf, faultEntryOf, entryState, entryFault}
-use Rattle.rounds.proofs.Reading.{fault-read, state-read}
+use Rattle.transitions.specs.Entries.{entryState, entryFault}
+use Rattle.rounds.proofs.Reading.{entryOf, faultEntryOf, fault-read, state-read}
 
 -- The faults and the states from process p on.
 abbrev restCount : List Fault → List State → ℕ → ℕ
@@ -55,9 +55,11 @@ module _ (x : InstanceTable) (run : RunTable) where
 
     -- One process more.
     pub counted-more : length (run .ends) ≡ 64 → (f p k : ℕ) → CountedBelow x run f p → p ≤ x .n
-        → k ≡ countsAsCrash (entryFault (faultEntryOf x p)) (entryState (entryOf run p)) → CountedBelow x run (f + k) (p + 1)
+        → ((step set count : ℕ) → k ≡ countsAsCrash (faultFrom (getD (x .rounds) (p - 1) 0) step set count) (entryState (entryOf run p)))
+        → CountedBelow x run (f + k) (p + 1)
     unfolding faultOf stateOf
-    counted-more entries f p k so-far h of-k =
+    counted-more entries f p k so-far h counting =
+        let of-k = counting (getD (x .steps) (p - 1) 0) (getD (x .sets) (p - 1) 0) (getD (x .counts) (p - 1) 0) in
         let size : length (statesIn (x .n) run) ≡ x .n = length-statesIn (x .n) run (omega arith) in
         let its-fault = fault-read x faults limit p _ (omega arith) h refl in
         let its-state = state-read (x .n) run entries limit p _ (omega arith) h refl in

@@ -1,7 +1,3 @@
-pub mod Cases
-pub mod Hearing
-pub mod Becoming
-pub mod Counting
 pub mod Reading
 pub mod Undecided
 pub mod Counted

@@ -1,8 +1,8 @@
--- What the code reads of the tables is what the definitions say of their instance and run. Assumes nothing.
+-- The entries of one process in the tables; what the code reads of the tables is what the definitions say of their instance and run. Assumes nothing.
 use mathlib.Core.Path.{_≡_, refl, sym, ap, _∙_}
-use Prim.Native.Nat.{ℕ, _≤_, _<_}
+use Prim.Native.Nat.{ℕ, _-_, _≤_, _<_}
 use native.Mathlib.Omega.{arith}
-use lib.ListN.{length}
+use lib.ListN.{length, getD}
 use Rattle.protocol.specs.Instance.{faultOf}
 use Rattle.protocol.specs.Round.{stateOf}
 use Rattle.protocol.specs.WellFormed.{WellFormed}
@@ -11,9 +11,22 @@ use Rattle.tables.specs.declared.RunTable.{RunTable}
 use Rattle.tables.specs.InstanceReading.{instanceOf}
 use Rattle.tables.specs.RunReading.{statesIn}
 use Rattle.tables.proofs.Places.{fault-at, state-in}
-use Rattle.rounds.specs.declared.Entry.{Entry}
-use Rattle.rounds.specs.declared.FaultEntry.{FaultEntry}
-use Rattle.rounds.specs.Entries.{entryOf, faultEntryOf, entryState, entryFault}
+use Rattle.transitions.specs.declared.Entry.{Entry}
+use Rattle.transitions.specs.declared.FaultEntry.{FaultEntry}
+use Rattle.transitions.specs.Entries.{entryState, entryFault}
+
+-- The entries of process p in the tables.
+abbrev pub entryOf : RunTable → ℕ → Entry
+entryOf run p = record { end = getD (run .ends) (p - 1) 0; ended = getD (run .ended) (p - 1) 0; value = getD (run .values) (p - 1) 0 }
+
+abbrev pub faultEntryOf : InstanceTable → ℕ → FaultEntry
+faultEntryOf x p =
+    record {
+      round = getD (x .rounds) (p - 1) 0;
+      step = getD (x .steps) (p - 1) 0;
+      reached = getD (x .sets) (p - 1) 0;
+      count = getD (x .counts) (p - 1) 0;
+    }
 
 pub processes-of : (x : InstanceTable) → instanceOf x .processes ≡ x .n
 unfolding instanceOf

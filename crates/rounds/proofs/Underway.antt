@@ -3,23 +3,21 @@
 use mathlib.Core.Path.{_≡_, refl, sym, ap, _∙_}
 use Prim.Native.Nat.{ℕ, _+_, _-_, _≤_, _<_}
 use native.Mathlib.Omega.{arith}
-use lib.ListN.{length, set, length-set}
+use lib.ListN.{length, getD, set, length-set}
 use lib.Seq.{getD-set-same, getD-set-other}
 use Rattle.general.proofs.Tests.{by-order}
 use Rattle.general.proofs.Indexed.{length-mapFrom}
 use Rattle.protocol.specs.Round.{State, stateOf, received, after, statesAfter}
-use Rattle.protocol.specs.Run.{withRound}
 use Rattle.protocol.proofs.Pointwise.{states-ext, round-state}
 use Rattle.tables.specs.declared.InstanceTable.{InstanceTable}
 use Rattle.tables.specs.declared.RunTable.{RunTable}
-use Rattle.tables.specs.InstanceReading.{instanceOf}
-use Rattle.tables.specs.RunReading.{statesIn, runFrom}
+use Rattle.tables.specs.InstanceReading.{faultFrom, instanceOf}
+use Rattle.tables.specs.RunReading.{statesIn}
 use Rattle.tables.proofs.Places.{fault-at, state-in, length-statesIn}
-use Rattle.rounds.specs.declared.Entry.{Entry}
-use Rattle.rounds.specs.declared.FaultEntry.{FaultEntry}
-use Rattle.rounds.specs.Entries.{entryOf, faultEntryOf, entryState, entryFault}
-use Rattle.rounds.specs.Halves.{withStates}
-use Rattle.rounds.proofs.Reading.{processes-of}
+use Rattle.transitions.specs.declared.Entry.{Entry}
+use Rattle.transitions.specs.declared.FaultEntry.{FaultEntry}
+use Rattle.transitions.specs.Entries.{entryState, entryFault}
+use Rattle.rounds.proofs.Reading.{entryOf, faultEntryOf, processes-of}
 
 -- The arrays of a run table have 64 places.
 pub record Sized (run : RunTable) : Type 0 where
@@ -105,11 +103,13 @@ one-stored x r run now p s way h g e =
 -- The same, of what the code makes of the entries that it reads and of the coordinator's as the round began, and stores.
 pub goes-on : (x : InstanceTable) (r : ℕ) (run now next : RunTable) (p : ℕ) (fault : FaultEntry) (c e : Entry) → Underway x r run now p → 1 ≤ p → p ≤ 64
     → fault ≡ faultEntryOf x r → c ≡ entryOf run r
-    → entryState e ≡ after r p (entryFault (faultEntryOf x p)) (received (x .n) r (entryFault fault) (entryState c) p) (entryState (entryOf now p))
+    → ((step set count : ℕ) → entryState e
+    ≡ after r p (faultFrom (getD (x .rounds) (p - 1) 0) step set count) (received (x .n) r (entryFault fault) (entryState c) p) (entryState (entryOf now p)))
     → next ≡ withEntry now p e → Underway x r run next (p + 1)
 goes-on x r run now next p fault c e way h g of-fault of-c becoming storing =
     let still : entryState (entryOf now p) ≡ entryState (entryOf run p) = ap entryState (way .left p (omega arith)) in
-    rw storing (one-stored x r run now p e way h g (becoming ∙ rw (of-fault, of-c, still)))
+    let its-own = becoming (getD (x .steps) (p - 1) 0) (getD (x .sets) (p - 1) 0) (getD (x .counts) (p - 1) 0) in
+    rw storing (one-stored x r run now p e way h g (its-own ∙ rw (of-fault, of-c, still)))
 
 module _ (x : InstanceTable) (r : ℕ) (run : RunTable) (h : 1 ≤ r) (g : r ≤ x .n) (fits : x .n ≤ 64) (faults : length (x .rounds) ≡ 64) (sized : Sized run) where
   -- A round of the definitions, at process q, from the tables.
@@ -122,18 +122,15 @@ module _ (x : InstanceTable) (r : ℕ) (run : RunTable) (h : 1 ≤ r) (g : r ≤
       ∙ rw (fault-at x q places a b, fault-at x r places h g, state-in (x .n) run r entries h g, state-in (x .n) run q entries a b, processes-of x)
 
   -- All have gone through it.
-  pub all-through : (now : RunTable) (p : ℕ) → Underway x r run now p → x .n < p → runFrom (x .n) now ≡ withStates (instanceOf x) r (runFrom (x .n) run)
-  unfolding runFrom withStates withRound statesAfter
-  all-through now p way above = rw (states, way .rounds, way .speakers, way .sent, way .commits)
+  pub all-through : (now : RunTable) (p : ℕ) → Underway x r run now p → x .n < p → statesIn (x .n) now ≡ statesAfter (instanceOf x) r (statesIn (x .n) run)
+  unfolding statesAfter
+  all-through now p way above =
+      states-ext (x .n) (statesIn (x .n) now) (statesAfter (instanceOf x) r (statesIn (x .n) run)) (length-statesIn (x .n) now entries-now)
+      (length-mapFrom _ 1 (statesIn (x .n) run) ∙ length-statesIn (x .n) run entries)
+      λ q a b. state-in (x .n) now q entries-now a b ∙ way .done q a (omega arith) ∙ sym (round-at q a b)
     where
       entries : x .n ≤ length (run .ends)
       entries = omega (arith, sized .ends)
 
       entries-now : x .n ≤ length (now .ends)
       entries-now = omega (arith, way .sized .ends)
-
-      states : statesIn (x .n) now ≡ statesAfter (instanceOf x) r (statesIn (x .n) run)
-      states =
-          states-ext (x .n) (statesIn (x .n) now) (statesAfter (instanceOf x) r (statesIn (x .n) run)) (length-statesIn (x .n) now entries-now)
-          (length-mapFrom _ 1 (statesIn (x .n) run) ∙ length-statesIn (x .n) run entries)
-          λ q a b. state-in (x .n) now q entries-now a b ∙ way .done q a (omega arith) ∙ sym (round-at q a b)

@@ -1,6 +1,6 @@
 -- The whole run: its start, one round more, and its end, early or not; over the tables. Assumes nothing.
 use mathlib.Core.Path.{_≡_, sym, ap, _∙_}
-use mathlib.Core.Bool.{Bool, false}
+use mathlib.Core.Bool.{Bool, true, false}
 use Prim.Native.Nat.{ℕ, suc, _+_, _-_, _≤_, _<_}
 use native.Mathlib.Omega.{arith}
 use lib.ListN.{length, getD, length-map}
@@ -21,32 +21,6 @@ use Rattle.tables.proofs.Places.{state-in, length-statesIn}
 use Rattle.rounds.specs.RoundAllowed.{RoundAllowed}
 use Rattle.rounds.proofs.Reading.{processes-of, resilience-of, limits}
 
--- A table whose ends and counts are 0 and whose values are the proposals is that of a run before round 1.
-module _ (x : InstanceTable) (run : RunTable) (limit : x .n ≤ 64) (proposals : length (x .values) ≡ 64) (entries : length (run .ends) ≡ 64)
-    (none-ended : (k : ℕ) → k < 64 → getD (run .ends) k 0 ≡ 0) (values : run .values ≡ x .values) where
-  proposals-length : length (instanceOf x .proposals) ≡ x .n
-  unfolding instanceOf
-  proposals-length = length-take-le (x .n) (x .values) (omega arith)
-
-  states-length : length (statesIn (x .n) run) ≡ x .n
-  states-length = length-statesIn (x .n) run (omega arith)
-
-  start-state : (p : ℕ) → 1 ≤ p → p ≤ x .n → stateOf (statesIn (x .n) run) p ≡ undecided (proposalOf (instanceOf x) p)
-  unfolding proposalOf instanceOf stateByEnd
-  start-state p h g =
-      state-in (x .n) run p (omega arith) h g
-      ∙ rw (none-ended (p - 1) (omega arith), values, getD-take (x .n) (x .values) (p - 1) 0 (omega arith))
-
-  start-states : statesIn (x .n) run ≡ initial (instanceOf x) .states
-  unfolding initial
-  start-states =
-      states-ext (x .n) (statesIn (x .n) run) (initial (instanceOf x) .states) states-length (length-map (instanceOf x .proposals) undecided ∙ proposals-length)
-      λ p h g. start-state p h g ∙ sym (initial-state (instanceOf x) p h (omega (arith, proposals-length)))
-
-  pub starts : run .rounds ≡ 0 → run .speakers ≡ 0 → run .sent ≡ 0 → run .commits ≡ 0 → runFrom (x .n) run ≡ initial (instanceOf x)
-  unfolding runFrom initial
-  starts rounds speakers sent commits = rw (start-states, rounds, speakers, sent, commits)
-
 -- The run as round r begins, one of rounds 1 to t + 1 or the one after them.
 pub record AtRound (x : InstanceTable) (run : RunTable) (r : ℕ) : Type 0 where
   pub well-formed : WellFormed (instanceOf x)
@@ -54,23 +28,51 @@ pub record AtRound (x : InstanceTable) (run : RunTable) (r : ℕ) : Type 0 where
   pub last : r ≤ x .t + 2
   pub so-far : runFrom (x .n) run ≡ runTo (instanceOf x) (r - 1)
 
-pub at-first-round : (x : InstanceTable) (run : RunTable) → WellFormed (instanceOf x) → runFrom (x .n) run ≡ initial (instanceOf x) → AtRound x run 1
-unfolding runTo
-at-first-round x run w e = record { well-formed = w; first = omega arith; last = omega arith; so-far = e }
+-- A table whose ends and counts are 0 and whose values are the proposals is that of the run as round 1 begins.
+module _ (x : InstanceTable) (run : RunTable) (w : WellFormed (instanceOf x)) (proposals : length (x .values) ≡ 64) (entries : length (run .ends) ≡ 64)
+    (none-ended : (k : ℕ) → k < 64 → getD (run .ends) k 0 ≡ 0) (values : run .values ≡ x .values) where
+  limit : x .n ≤ 64
+  limit = limits x w .1
+
+  proposals-length : length (instanceOf x .proposals) ≡ x .n
+  unfolding instanceOf
+  proposals-length = length-take-le (x .n) (x .values) (omega (arith, limit))
+
+  states-length : length (statesIn (x .n) run) ≡ x .n
+  states-length = length-statesIn (x .n) run (omega (arith, limit))
+
+  start-state : (p : ℕ) → 1 ≤ p → p ≤ x .n → stateOf (statesIn (x .n) run) p ≡ undecided (proposalOf (instanceOf x) p)
+  unfolding proposalOf instanceOf stateByEnd
+  start-state p h g =
+      state-in (x .n) run p (omega (arith, limit)) h g
+      ∙ rw (none-ended (p - 1) (omega (arith, limit)), values, getD-take (x .n) (x .values) (p - 1) 0 (omega arith))
+
+  start-states : statesIn (x .n) run ≡ initial (instanceOf x) .states
+  unfolding initial
+  start-states =
+      states-ext (x .n) (statesIn (x .n) run) (initial (instanceOf x) .states) states-length (length-map (instanceOf x .proposals) undecided ∙ proposals-length)
+      λ p h g. start-state p h g ∙ sym (initial-state (instanceOf x) p h (omega (arith, proposals-length)))
+
+  pub at-first-round : run .rounds ≡ 0 → run .speakers ≡ 0 → run .sent ≡ 0 → run .commits ≡ 0 → AtRound x run 1
+  unfolding runFrom runTo initial
+  at-first-round rounds speakers sent commits =
+      record { well-formed = w; first = omega arith; last = omega arith; so-far = rw (start-states, rounds, speakers, sent, commits) }
 
 module _ (x : InstanceTable) (run : RunTable) (r : ℕ) (now : AtRound x run r) where
-  pub round-allowed : r ≤ x .t + 1 → RoundAllowed (x .n) r run
+  -- Each of rounds 1 to t + 1 may be run on the table, as long as a process is up and undecided.
+  pub round-allowed : (q : ℕ) → 1 ≤ q → q ≤ x .t + 1 → r ≤ x .t + 1 → anyUndecided (statesIn (x .n) run) ≡ true → RoundAllowed (x .n) q run
   unfolding runFrom
-  round-allowed g =
+  round-allowed q first last g undecided-left =
       let w = now .well-formed in
       let speakers : run .speakers ≡ runTo (instanceOf x) (r - 1) .speakers = ap (λ (known : Run). known .speakers) (now .so-far) in
       let sent : run .sent ≡ runTo (instanceOf x) (r - 1) .dataSent = ap (λ (known : Run). known .dataSent) (now .so-far) in
       let commits : run .commits ≡ runTo (instanceOf x) (r - 1) .commitsSent = ap (λ (known : Run). known .commitsSent) (now .so-far) in
       let inside : r - 1 ≤ instanceOf x .processes = rw processes-of (omega (arith, limits x w)) in
       record {
-        first = now .first;
+        first = first;
         last = omega (arith, limits x w);
         at-most-64 = limits x w .1;
+        some-undecided = undecided-left;
         speakers = omega (arith, limits x w, speakers-le (instanceOf x) (r - 1));
         sent = omega (arith, limits x w, data-sent-le (instanceOf x) w (r - 1) inside);
         commits = omega (arith, limits x w, commits-sent-le (instanceOf x) w (r - 1) inside);

@@ -1,4 +1,1 @@
-pub mod Entries
-pub mod Heard
-pub mod Halves
 pub mod RoundAllowed

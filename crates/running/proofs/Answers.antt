@@ -1,7 +1,7 @@
 -- One law for each answer of running and settling, over plain variables. Assumes nothing.
 use mathlib.Core.List.{List, _++_}
 use mathlib.Core.Path.{_≡_, refl, sym, ap, ap₂, _∙_}
-use Prim.Native.Nat.{ℕ, _+_, _*_, _≤_, _<_}
+use Prim.Native.Nat.{ℕ, _≤_, _<_}
 use native.Mathlib.Omega.{arith}
 use borrow.Author.Tests.{lt-ltb, le-ltb, ltb-true, ltb-false}
 use mathlib.Core.Bool.{Bool, true, false}
@@ -67,9 +67,9 @@ module _ (text before : List ℕ) where
     formed : WellFormed (instanceOf table)
     formed = accepted-well-formed text (instanceOf table) read
 
-    pub ran-short : length before < 17 * (table .n + 1) → Ran text before before (Refused 9 0)
-    unfolding instanceOf resultSize
-    ran-short h = refused-as 9 0 (running-short text (length before) (instanceOf table) read (omega arith))
+    pub ran-short : (size : ℕ) → size ≡ resultSize (table .n) → length before < size → Ran text before before (Refused 9 0)
+    unfolding instanceOf
+    ran-short size sized h = refused-as 9 0 (running-short text (length before) (instanceOf table) read (omega arith))
 
     -- The code's run and its f give the instance's result.
     result-is : (run : RunTable) (f : ℕ) → runFrom (table .n) run ≡ runOf (instanceOf table)
@@ -78,21 +78,21 @@ module _ (text before : List ℕ) where
     result-is run f same counted =
         ap₂ resultLines same (counted ∙ ap (λ (r : Run). crashCount (instanceOf table .pattern) (r .states)) same)
 
-    length-text : length (resultText (instanceOf table)) ≡ 17 * (table .n + 1)
-    unfolding resultText resultSize instanceOf
-    length-text = length-result (runOf (instanceOf table)) (crashesOf (instanceOf table)) (table .n) (states-at-end (instanceOf table) formed) ∙ omega arith
+    length-text : length (resultText (instanceOf table)) ≡ resultSize (table .n)
+    unfolding resultText instanceOf
+    length-text = length-result (runOf (instanceOf table)) (crashesOf (instanceOf table)) (table .n) (states-at-end (instanceOf table) formed)
 
-    pub ran-written : (run : RunTable) (f : ℕ) (after : List ℕ) → runFrom (table .n) run ≡ runOf (instanceOf table)
-        → f ≡ crashCount (instanceOf table .pattern) (statesIn (table .n) run) → 17 * (table .n + 1) ≤ length before
-        → after ≡ resultLines (runFrom (table .n) run) f ++ drop (resultSize (table .n)) before → Ran text before after (Written (17 * (table .n + 1)))
-    unfolding answerOf bufferAfter resultSize instanceOf
-    ran-written run f after same counted fits stored =
-        let size : resultSize (table .n) ≡ length (resultText (instanceOf table)) = omega (arith, length-text) in
+    pub ran-written : (size : ℕ) → size ≡ resultSize (table .n) → (run : RunTable) (f : ℕ) (after : List ℕ) → runFrom (table .n) run ≡ runOf (instanceOf table)
+        → f ≡ crashCount (instanceOf table .pattern) (statesIn (table .n) run) → size ≤ length before
+        → after ≡ resultLines (runFrom (table .n) run) f ++ drop (resultSize (table .n)) before → Ran text before after (Written size)
+    unfolding answerOf bufferAfter instanceOf
+    ran-written size sized run f after same counted fits stored =
         let ran = running-fits text (length before) (instanceOf table) read (omega arith) in
         record {
-          answered = ap Written (sym length-text) ∙ sym (ap answerOf ran);
+          answered = ap Written (sized ∙ sym length-text) ∙ sym (ap answerOf ran);
           buffer =
-              stored ∙ ap₂ (λ (l : List ℕ) (k : ℕ). l ++ drop k before) (result-is run f same counted) size ∙ sym (ap (λ (a : Reading (List ℕ)). bufferAfter a before) ran);
+              stored ∙ ap₂ (λ (l : List ℕ) (k : ℕ). l ++ drop k before) (result-is run f same counted) (sym length-text)
+              ∙ sym (ap (λ (a : Reading (List ℕ)). bufferAfter a before) ran);
         }
 
 -- The run's last round qualifies.

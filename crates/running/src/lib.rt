@@ -28,7 +28,7 @@ fn run_rest(text: &[u8], n: u8, t: u8, at: usize, out: &mut [u8]) -> RunAnswer
     if let Answer::Refused(number, line) = answer {
         return RunAnswer::Refused(number, line);
     }
-    let size = 17 * (read.table.n as usize + 1);
+    let size = result::result_size(read.table.n);
     if out.len() < size {
         return RunAnswer::Refused(9, 0);
     }

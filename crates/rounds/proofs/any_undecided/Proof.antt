@@ -1,43 +1,40 @@
--- `rounds::any_undecided` meets its contract. The loop's invariant: no process below p is up and undecided. Assumes nothing.
-use Prim.Native.Nat.{_≤_, _+_, _-_}
+-- `rounds::any_undecided` meets its contract. The loop's invariant: none of the ends before place i is that of a process up and undecided. Assumes nothing.
+use mathlib.Core.Path.{_≡_}
+use Prim.Native.Nat.{ℕ, _≤_, _<_, _-_}
 use native.Mathlib.Omega.{arith}
+use lib.ListN.{getD}
+use borrow.Author.Count.{below-more}
 use borrow.Author.Needs.{needs}
-use Rattle.rounds.proofs.Undecided.{NoneBelow, none-yet, none-more, one-found, none-found}
+use Rattle.rounds.proofs.Undecided.{one-found, none-found}
 use Rattle.rounds.proofs.any_undecided.Statement.{statement}
 use Rattle.rounds.proofs.any_undecided.Tie as tie
 
 abbrev Inv-loop : tie.InvT-loop
-Inv-loop n run p₀ p = (1 ≤ p) × (p ≤ n + 1) × NoneBelow run p
+Inv-loop ends n places i₀ i = (i ≤ places) × ((k : ℕ) → k < i → getD ends k 0 ≡ 0 → ⊥)
 
 abbrev μ-loop : tie.MeasureT-loop
-μ-loop n run p₀ p = n + 1 - p
+μ-loop ends n places i₀ i = places - i
 
 loop-holds : tie.Need-loop-holds Inv-loop μ-loop
-loop-holds c = (omega arith, omega arith, none-yet _)
+loop-holds c = search needs
 
-sub-i : tie.Need-sub-i Inv-loop μ-loop
-sub-i c = search needs
-
-cast-i : tie.Need-cast-i Inv-loop μ-loop
-cast-i c = search needs
-
-element-copy-out-if1 : tie.Need-element-copy-out-if1 Inv-loop μ-loop
-element-copy-out-if1 c = search needs
+shared-slice-read-if1 : tie.Need-shared-slice-read-if1 Inv-loop μ-loop
+shared-slice-read-if1 c = search needs
 
 returns : tie.Need-returns Inv-loop μ-loop
-returns c = one-found _ _ (search needs) (omega arith) _ (omega arith) (omega arith) (c .if1 .taken)
+returns c run its-ends = one-found _ _ (search needs) run its-ends _ (omega arith) (c .if1 .taken)
 
-add-p : tie.Need-add-p Inv-loop μ-loop
-add-p c = search needs
+add-i : tie.Need-add-i Inv-loop μ-loop
+add-i c = search needs
 
 loop-less : tie.Need-loop-less Inv-loop μ-loop
 loop-less c = search needs
 
 loop-again : tie.Need-loop-again Inv-loop μ-loop
-loop-again c = (omega arith, omega arith, none-more _ _ (c .before .before .before .loop .inv .2) (c .if1 .left))
+loop-again c = (search needs, below-more _ _ (c .before .before .before .loop .inv .1) (c .if1 .left))
 
 returns-2 : tie.Need-returns-2 Inv-loop μ-loop
-returns-2 c = none-found _ _ (search needs) (omega arith) _ (omega arith) (c .before .loop .inv .2)
+returns-2 c run its-ends = none-found _ _ (search needs) run its-ends _ (omega arith) (c .before .loop .inv .1)
 
 pub any-undecided-spec : {M : Type 1} → statement M
 any-undecided-spec =
@@ -46,11 +43,9 @@ any-undecided-spec =
     Inv-loop
     μ-loop
     loop-holds
-    sub-i
-    cast-i
-    element-copy-out-if1
+    shared-slice-read-if1
     returns
-    add-p
+    add-i
     loop-less
     loop-again
     returns-2)

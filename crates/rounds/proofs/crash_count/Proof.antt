@@ -21,38 +21,26 @@ sub-i c = search needs
 cast-i : tie.Need-cast-i Inv-loop μ-loop
 cast-i c = search needs
 
-element-copy-out-t12 : tie.Need-element-copy-out-t12 Inv-loop μ-loop
-element-copy-out-t12 c = search needs
-
 element-copy-out-f : tie.Need-element-copy-out-f Inv-loop μ-loop
 element-copy-out-f c = search needs
 
-mul-t18 : tie.Need-mul-t18 Inv-loop μ-loop
-mul-t18 c = search needs
+element-copy-out-counts-as-crash : tie.Need-element-copy-out-counts-as-crash Inv-loop μ-loop
+element-copy-out-counts-as-crash c = search needs
 
-element-copy-out-t21 : tie.Need-element-copy-out-t21 Inv-loop μ-loop
-element-copy-out-t21 c = search needs
+mul-t17 : tie.Need-mul-t17 Inv-loop μ-loop
+mul-t17 c = search needs
 
-element-copy-out-t24 : tie.Need-element-copy-out-t24 Inv-loop μ-loop
-element-copy-out-t24 c = search needs
+element-copy-out-t20 : tie.Need-element-copy-out-t20 Inv-loop μ-loop
+element-copy-out-t20 c = search needs
 
-element-copy-out-t12-2 : tie.Need-element-copy-out-t12-2 Inv-loop μ-loop
-element-copy-out-t12-2 c = search needs
-
-element-copy-out-t24-2 : tie.Need-element-copy-out-t24-2 Inv-loop μ-loop
-element-copy-out-t24-2 c = search needs
-
-mul-t18-2 : tie.Need-mul-t18-2 Inv-loop μ-loop
-mul-t18-2 c = search needs
-
-element-copy-out-t31 : tie.Need-element-copy-out-t31 Inv-loop μ-loop
-element-copy-out-t31 c = search needs
+element-copy-out-counts-as-crash-2 : tie.Need-element-copy-out-counts-as-crash-2 Inv-loop μ-loop
+element-copy-out-counts-as-crash-2 c = search needs
 
 counts-as-crash-requires : tie.Need-counts-as-crash-requires Inv-loop μ-loop
 counts-as-crash-requires c κs = search needs
 
 add-f : tie.Need-add-f Inv-loop μ-loop
-add-f c = omega (arith, counted-once _ _ _ (c .counts-as-crash .ensures))
+add-f c = omega (arith, counted-once _ _ _ (c .counts-as-crash .ensures 0 0 0))
 
 add-p : tie.Need-add-p Inv-loop μ-loop
 add-p c = omega arith
@@ -75,15 +63,11 @@ crash-count-spec =
     loop-holds
     sub-i
     cast-i
-    element-copy-out-t12
     element-copy-out-f
-    mul-t18
-    element-copy-out-t21
-    element-copy-out-t24
-    element-copy-out-t12-2
-    element-copy-out-t24-2
-    mul-t18-2
-    element-copy-out-t31
+    element-copy-out-counts-as-crash
+    mul-t17
+    element-copy-out-t20
+    element-copy-out-counts-as-crash-2
     counts-as-crash-requires
     add-f
     add-p

@@ -1,7 +1,10 @@
 -- `rounds::run_all` meets its contract. The loop's invariant: the table is the run as round r begins. Assumes nothing.
+use mathlib.Core.Path.{refl, sym, _∙_}
 use Prim.Native.Nat.{_+_, _-_}
 use native.Mathlib.Omega.{arith}
-use borrow.Author.Tests.{not-true}
+use lib.ListN.{getD-replicate}
+use borrow.Author.Needs.{needs}
+use borrow.Author.Tests.{not-true, not-false}
 use Rattle.rounds.proofs.Reading.{limits}
 use Rattle.rounds.proofs.Whole.{AtRound, at-first-round, round-allowed, at-next-round, ended-early, ended-late}
 use Rattle.rounds.proofs.run_all.Statement.{statement}
@@ -16,29 +19,32 @@ abbrev μ-loop : tie.MeasureT-loop
 add-last : tie.Need-add-last Inv-loop μ-loop
 add-last c = omega (arith, limits _ (c .before .pre))
 
-initial-run-requires : tie.Need-initial-run-requires Inv-loop μ-loop
-initial-run-requires c κs = omega (arith, limits _ (c .before .pre))
-
 loop-holds : tie.Need-loop-holds Inv-loop μ-loop
-loop-holds c = at-first-round _ _ (c .before .before .pre) (c .initial-run .ensures)
+loop-holds c =
+    at-first-round _ _ (search needs) (search needs) (search needs) (λ k h. getD-replicate 64 k 0 0 h) refl refl refl refl refl
 
 any-undecided-requires : tie.Need-any-undecided-requires Inv-loop μ-loop
-any-undecided-requires c κs = omega (arith, limits _ (c .before .loop .inv .well-formed))
+any-undecided-requires c κs = omega (arith, limits _ (c .before .before .before .before .loop .inv .well-formed))
 
 returns : tie.Need-returns Inv-loop μ-loop
-returns c = ended-early _ _ _ (c .before .before .before .loop .inv) _ (c .before .any-undecided .ensures) (not-true _ (c .if1 .taken)) (omega arith)
+returns c =
+    let found = c .before in
+    ended-early _ _ _ (found .before .before .before .before .before .loop .inv) _ (found .any-undecided .ensures _ refl) (not-true _ (c .if1 .taken)) (omega arith)
 
 run-round-requires : tie.Need-run-round-requires Inv-loop μ-loop
-run-round-requires c κs = round-allowed _ _ _ (c .before .before .before .loop .inv) (omega arith)
+run-round-requires c κs =
+    let found = c .before in
+    round-allowed _ _ _ (found .before .before .before .before .before .loop .inv) _ (omega arith) (omega arith) (omega arith)
+    (sym (found .any-undecided .ensures _ refl) ∙ not-false _ (c .if1 .left))
 
 add-r : tie.Need-add-r Inv-loop μ-loop
-add-r c = omega (arith, limits _ (c .before .before .before .before .loop .inv .well-formed))
+add-r c = omega (arith, limits _ (c .before .before .before .before .before .before .before .loop .inv .well-formed))
 
 loop-less : tie.Need-loop-less Inv-loop μ-loop
 loop-less c = omega arith
 
 loop-again : tie.Need-loop-again Inv-loop μ-loop
-loop-again c = at-next-round _ _ _ (c .before .before .before .before .loop .inv) _ (omega arith) (c .run-round .ensures)
+loop-again c = at-next-round _ _ _ (c .before .before .before .before .before .before .before .loop .inv) _ (omega arith) (c .run-round .ensures)
 
 returns-2 : tie.Need-returns-2 Inv-loop μ-loop
 returns-2 c = ended-late _ _ _ (c .before .loop .inv) (omega arith)
@@ -50,7 +56,6 @@ run-all-spec =
     Inv-loop
     μ-loop
     add-last
-    initial-run-requires
     loop-holds
     any-undecided-requires
     returns

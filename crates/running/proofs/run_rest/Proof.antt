@@ -6,7 +6,6 @@ use Rattle.tables.specs.InstanceReading.{instanceOf}
 use Rattle.ticket.specs.Reading.{accepted}
 use Rattle.ticket.specs.Ticket.{readTicket}
 use Rattle.ticket.proofs.WellFormed.{accepted-well-formed}
-use Rattle.result.specs.ResultLine.{resultSize}
 use Rattle.running.proofs.Answers.{read-refused, read-accepted, ran-refused, ran-short, ran-written}
 use Rattle.running.proofs.run_rest.Statement.{statement}
 use Rattle.running.proofs.run_rest.Tie as tie
@@ -26,36 +25,29 @@ enum-told : tie.Need-enum-told
 enum-told c = search needs
 
 -- Past the first return the ticket is accepted, with the instance of the table.
-ticket-read : (c : tie.After-struct-known)
-    → readTicket (c .before .before .before .before .before .before .args .text .now)
-    ≡ accepted (instanceOf (c .before .before .before .read-rest .result .table))
-ticket-read c = read-accepted _ _ (c .before .before .before .read-rest .ensures) (c .before .enum-told .given .1)
+ticket-read : (c : tie.After-enum-told)
+    → readTicket (c .before .before .before .before .before .args .text .now) ≡ accepted (instanceOf (c .before .before .read-rest .result .table))
+ticket-read c = read-accepted _ _ (c .before .before .read-rest .ensures) (c .enum-told .given .1)
 
-cast-size : tie.Need-cast-size
-cast-size c = search needs
-
-add-size : tie.Need-add-size
-add-size c = search needs
-
-mul-size : tie.Need-mul-size
-mul-size c = search needs
+result-size-requires : tie.Need-result-size-requires
+result-size-requires c κs = search needs
 
 returns-2 : tie.Need-returns-2
-returns-2 c = ran-short _ _ _ (ticket-read (c .before)) (c .if1 .taken)
+returns-2 c = let sized = c .before in ran-short _ _ _ (ticket-read (sized .before)) _ (sized .result-size .ensures) (c .if1 .taken)
 
 run-all-requires : tie.Need-run-all-requires
-run-all-requires c κs = accepted-well-formed _ _ (ticket-read (c .before))
+run-all-requires c κs = accepted-well-formed _ _ (ticket-read (c .before .before))
 
 crash-count-requires : tie.Need-crash-count-requires
 unfolding instanceOf
-crash-count-requires c κs = accepted-well-formed _ _ (ticket-read (c .before .before)) .at-most-64
+crash-count-requires c κs = accepted-well-formed _ _ (ticket-read (c .before .before .before)) .at-most-64
 
 write-result-requires : tie.Need-write-result-requires
-unfolding instanceOf resultSize
+unfolding instanceOf
 write-result-requires c κs =
     let branch = c .before .before .before in
-    let few = accepted-well-formed _ _ (ticket-read (branch .before)) .at-most-64 in
-    (omega (arith, few), omega (arith, branch .if1 .left))
+    let few = accepted-well-formed _ _ (ticket-read (branch .before .before)) .at-most-64 in
+    (omega (arith, few), omega (arith, branch .before .result-size .ensures, branch .if1 .left))
 
 same-length : tie.Need-same-length
 same-length c = search needs
@@ -65,7 +57,8 @@ returns-3 c =
     let wrote = c .before .before in
     let counted = wrote .before .before in
     let branch = counted .before .before in
-    ran-written _ _ _ (ticket-read (branch .before)) _ _ _
+    let sized = branch .before in
+    ran-written _ _ _ (ticket-read (sized .before)) _ (sized .result-size .ensures) _ _ _
     (counted .before .run-all .ensures)
     (counted .crash-count .ensures)
     (branch .if1 .left)
@@ -79,9 +72,7 @@ run-rest-spec =
     enum-known-answer
     returns
     enum-told
-    cast-size
-    add-size
-    mul-size
+    result-size-requires
     returns-2
     run-all-requires
     crash-count-requires

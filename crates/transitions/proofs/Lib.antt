@@ -1,0 +1,4 @@
+pub mod Cases
+pub mod Hearing
+pub mod Becoming
+pub mod Counting
