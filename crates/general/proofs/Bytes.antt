@@ -1,4 +1,4 @@
--- Lists of which every number is below a bound, bytes above all: one more, two put together, and what is left of one. Assumes nothing.
+-- Lists of which every number is below a bound, bytes above all: one by one, one more, two put together, and what is left of one. Assumes nothing.
 use mathlib.Core.List.{List, [], _∷_, _++_}
 use Prim.Native.Nat.{ℕ, zero, suc, _+_, _<_}
 use native.Mathlib.Omega.{arith}
@@ -12,6 +12,16 @@ AllBelow bound l = (i : ℕ) → getD l i 0 < bound
 -- Every number of the list is a byte.
 abbrev pub Bytes : List ℕ → Type 0
 Bytes b = AllBelow 256 b
+
+-- The same, said of one number after the other.
+abbrev pub EachByte : List ℕ → Type 0
+EachByte [] = Unit
+EachByte (b ∷ bs) = (b < 256) × EachByte bs
+
+pub bytes-each : (bs : List ℕ) → EachByte bs → Bytes bs
+bytes-each [] h i = omega arith
+bytes-each (b ∷ bs) h zero = h .0
+bytes-each (b ∷ bs) h (suc i) = bytes-each bs (h .1) i
 
 pub below-snoc : (bound : ℕ) (l : List ℕ) (v : ℕ) → AllBelow bound l → v < bound → AllBelow bound (l ++ (v ∷ []))
 below-snoc bound [] v h g zero = g

@@ -15,12 +15,11 @@ use Rattle.protocol.specs.Consensus.{IsProcess}
 use Rattle.protocol.proofs.Pointwise.{stateAt, state-at}
 use Rattle.protocol.proofs.Values.{Holds, holds-fitting}
 use Rattle.protocol.proofs.Coordinator.{waits-below}
-use Rattle.process.specs.PartState.{stateBytes, stateFrom, stateValid, isOwnRound, markOpen, markDecided}
-use Rattle.process.specs.Frame.{Carried, framesOf}
+use Rattle.encoding.specs.PartState.{stateBytes, stateFrom, stateValid, isOwnRound, markOpen, markDecided}
+use Rattle.encoding.specs.Frame.{Carried, framesOf}
 use Rattle.process.specs.Speak.{speakRefusal, speakYields}
 use Rattle.process.specs.Close.{stateAfter, closedOn, closeRefusal, closeState}
-use Rattle.process.proofs.Valid.{Identity}
-use Rattle.process.proofs.StaysValid.{within-valid}
+use Rattle.encoding.proofs.Valid.{Identity, within-valid}
 use Rattle.process.proofs.Exchange.{speak-yields, close-on-frames}
 use Rattle.parts.specs.Part.{Part, up, crashedIn, isOpen, outputRoom, yielded}
 use Rattle.parts.specs.Host.{partAfter}

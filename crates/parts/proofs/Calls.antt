@@ -11,14 +11,14 @@ use lib.ListN.{length, take}
 use lib.Seq.{take-append-seam}
 use borrow.Author.Tests.{ne-eqb, le-ltb}
 use Rattle.protocol.specs.Transition.{sends}
-use Rattle.process.specs.PartState.{PartState, stateBytes, stateFrom, stateValid, stateRefusal, isOwnRound, markOpen}
-use Rattle.process.specs.Frame.{framesOf}
+use Rattle.encoding.specs.PartState.{PartState, stateBytes, stateFrom, stateValid, stateRefusal, isOwnRound, markOpen}
+use Rattle.encoding.specs.Frame.{framesOf}
 use Rattle.process.specs.Speak.{spokenBy, speakRefusal, speakYields, speakAnswer, speakOutput}
 use Rattle.process.specs.Close.{closeState}
-use Rattle.process.proofs.Opened.{opened}
+use Rattle.encoding.proofs.Opened.{opened}
 use Rattle.process.proofs.Operations.{length-frames, close-refused}
-use Rattle.process.proofs.RoundTrip.{state-from-bytes}
-use Rattle.process.proofs.StaysValid.{open-bytes}
+use Rattle.encoding.proofs.RoundTrip.{state-from-bytes}
+use Rattle.encoding.proofs.ValidBytes.{open-bytes}
 use Rattle.parts.specs.Part.{outputRoom}
 
 -- A part that is not open.

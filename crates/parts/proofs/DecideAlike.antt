@@ -15,12 +15,12 @@ use Rattle.protocol.proofs.Pointwise.{stateAt, state-at}
 use Rattle.protocol.proofs.Rounds.{received-below}
 use Rattle.protocol.proofs.History.{heardAt, undecided-crashed, decided-crashed}
 use Rattle.protocol.proofs.Values.{Holds, holds-fitting}
-use Rattle.process.specs.PartState.{stateBytes, stateFrom, markOpen, markDecided}
-use Rattle.process.specs.Frame.{Carried, framesOf}
+use Rattle.encoding.specs.PartState.{stateBytes, stateFrom, markOpen, markDecided}
+use Rattle.encoding.specs.Frame.{Carried, framesOf}
 use Rattle.process.specs.Start.{startRefusal, startState, startBytes}
 use Rattle.process.specs.Speak.{speakRefusal}
 use Rattle.process.specs.Close.{closeRefusal}
-use Rattle.process.proofs.StaysValid.{identity-holds}
+use Rattle.encoding.proofs.Valid.{identity-holds}
 use Rattle.process.proofs.Operations.{start-written}
 use Rattle.process.proofs.Exchange.{sends-carried, arriving-carried}
 use Rattle.parts.specs.Part.{Part, up, partOf, isOpen, outputRoom, yielded}

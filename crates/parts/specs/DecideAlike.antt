@@ -7,7 +7,7 @@ use Rattle.protocol.specs.Instance.{Instance}
 use Rattle.protocol.specs.Round.{State, undecided, decided, crashed, stateOf}
 use Rattle.protocol.specs.Run.{runTo}
 use Rattle.protocol.specs.Consensus.{IsProcess, endOf}
-use Rattle.process.specs.PartState.{PartState, stateBytes, markOpen, markDecided, markOver}
+use Rattle.encoding.specs.PartState.{PartState, stateBytes, markOpen, markDecided, markOver}
 use Rattle.process.specs.Start.{startRefusal}
 use Rattle.process.specs.Speak.{speakRefusal}
 use Rattle.process.specs.Close.{closeRefusal}

@@ -4,7 +4,7 @@ use Prim.Native.Nat.{ℕ, _-_}
 use mathlib.Core.Bool.{Bool}
 use lib.Dec.{eqb}
 use lib.ListN.{getD}
-use Rattle.process.specs.PartState.{stateFrom, markOpen}
+use Rattle.encoding.specs.PartState.{stateFrom, markOpen}
 use Rattle.process.specs.Speak.{speakYields}
 
 -- Up, with its nine bytes; or crashed in this round, with the nine bytes with which the round began (document 01: dark). A crashed part is not called again.

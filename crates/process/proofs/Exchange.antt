@@ -1,22 +1,22 @@
 -- Speaking and closing over the bytes of states and of messages: the operations are the transition, whatever the bytes. Assumes nothing.
-use mathlib.Core.Path.{_≡_, refl, sym}
-use mathlib.Core.Option.{some, none}
-use mathlib.Core.Bool.{Bool, true, false, cond, not, _&&_}
+use mathlib.Core.Path.{_≡_, sym}
+use mathlib.Core.Option.{some}
+use mathlib.Core.Bool.{Bool, true, false}
 use Prim.Native.Nat.{ℕ, _≤_, _<_, _^_}
 use native.Mathlib.Omega.{arith}
-use lib.Dec.{eqb, ltb}
+use lib.Dec.{ltb}
 use lib.ListN.{length}
 use borrow.Author.Tests.{le-ltb}
 use Rattle.general.specs.BigEndian.{bytesOf}
 use Rattle.protocol.specs.Message.{Messages, nothing, estimate, estimateAndCommit, Reach, dataOnly, all, arriving}
 use Rattle.protocol.specs.Message as message
 use Rattle.protocol.specs.Transition.{sends}
-use Rattle.process.specs.PartState.{PartState, stateBytes, stateFrom, stateValid, stateRefusal, isOwnRound}
-use Rattle.process.specs.Frame.{Carried, dataFrame, commitFrame, framesOf, messagesFrom}
+use Rattle.encoding.specs.PartState.{PartState, stateBytes, stateFrom, stateValid, stateRefusal, isOwnRound}
+use Rattle.encoding.specs.Frame.{Carried, dataFrame, commitFrame, framesOf, heardBy}
 use Rattle.process.specs.Speak.{spokenBy, speakRefusal, speakYields}
-use Rattle.process.specs.Close.{heardBy, closedOn, closeRefusal, closeState}
-use Rattle.process.proofs.RoundTrip.{state-from-bytes, messages-from-frames}
-use Rattle.process.proofs.StaysValid.{open-bytes}
+use Rattle.process.specs.Close.{closedOn, closeRefusal, closeState}
+use Rattle.encoding.proofs.RoundTrip.{state-from-bytes, heard-frames}
+use Rattle.encoding.proofs.ValidBytes.{open-bytes}
 use Rattle.process.proofs.Operations.{close-closed}
 
 -- ---- values that four bytes can carry
@@ -41,15 +41,6 @@ unfolding sends framesOf dataFrame commitFrame bytesOf
 length-sent true r v = omega arith
 length-sent false r v = omega arith
 
--- In its own round a process hears no frame; in any other, those of its messages.
-heard-of : (own : Bool) (r : ℕ) (m : Messages) → Carried m → (own ≡ true → m ≡ nothing)
-    → cond (own && not (eqb (length (framesOf r m)) 0)) none (messagesFrom r (framesOf r m)) ≡ some m
-unfolding framesOf
-heard-of true r nothing c silent = messages-from-frames r nothing c
-heard-of true r (estimate v) c silent = let e = silent refl in let z : _≡_ {A = ℕ} 0 1 = cc in absurd (omega arith)
-heard-of true r (estimateAndCommit v) c silent = let e = silent refl in let z : _≡_ {A = ℕ} 0 1 = cc in absurd (omega arith)
-heard-of false r m c silent = messages-from-frames r m c
-
 module _ (s : PartState) (valid : stateValid s ≡ true) (open-mark : s .mark ≡ 0) (small : s .value < 2 ^ 32) where
   -- Speaking yields the frames of what the process sends.
   pub speak-yields : (room : ℕ) → 8 ≤ room → speakYields (stateBytes s) room ≡ framesOf (s .round) (sends (isOwnRound s) (s .value))
@@ -60,16 +51,12 @@ module _ (s : PartState) (valid : stateValid s ≡ true) (open-mark : s .mark �
       let fits : ltb room (length sent) ≡ false = le-ltb room (length sent) (omega (arith, length-sent (isOwnRound s) (s .round) (s .value))) in
       simp (opened, state-from-bytes s small, fits)
 
-  heard-frames : (m : Messages) → Carried m → (isOwnRound s ≡ true → m ≡ nothing) → heardBy s (framesOf (s .round) m) ≡ some m
-  unfolding heardBy
-  heard-frames m c own = heard-of (isOwnRound s) (s .round) m c own
-
   -- Closing on the frames of messages of this round is the transition on them; in its own round a process receives none.
   pub close-on-frames : (m : Messages) → Carried m → (isOwnRound s ≡ true → m ≡ nothing)
       → (closeRefusal (stateBytes s) (framesOf (s .round) m) ≡ 0) × (closeState (stateBytes s) (framesOf (s .round) m) ≡ stateBytes (closedOn s m))
   close-on-frames m c own =
       let same = state-from-bytes s small in
-      let heard : some m ≡ heardBy (stateFrom (stateBytes s)) (framesOf (s .round) m) = rw same (sym (heard-frames m c own)) in
+      let heard : some m ≡ heardBy (stateFrom (stateBytes s)) (framesOf (s .round) m) = rw same (sym (heard-frames s m c own)) in
       let after : stateBytes (closedOn s m) ≡ stateBytes (closedOn (stateFrom (stateBytes s)) m) = rw same in
       let closed = close-closed (stateBytes s) (framesOf (s .round) m) (open-bytes s valid open-mark) (stateBytes (closedOn s m)) m heard after in
       (sym (closed .0), sym (closed .1))

@@ -9,14 +9,16 @@ use lib.Dec.{eqb}
 use lib.ListN.{length}
 use borrow.Author.Tests.{eqb-true, eqb-false}
 use Rattle.protocol.specs.Message.{Messages}
-use Rattle.process.specs.PartState.{stateBytes, stateFrom, identityValid, stateValid, stateRefusal, ValidBytes}
+use Rattle.encoding.specs.PartState.{stateBytes, stateFrom, identityValid, stateValid, stateRefusal, ValidBytes}
+use Rattle.encoding.specs.Frame.{heardBy}
 use Rattle.process.specs.Start.{startState, startRefusal, startBytes}
-use Rattle.process.specs.Close.{heardBy, closedOn, heardRefusal, closeRefusal, closeState}
+use Rattle.process.specs.Close.{closedOn, heardRefusal, closeRefusal, closeState}
 use Rattle.general.proofs.Tests.{both}
-use Rattle.process.proofs.Valid.{identity-says}
-use Rattle.process.proofs.Opened.{Opened, opened}
+use Rattle.encoding.proofs.Valid.{identity-says, within-valid}
+use Rattle.encoding.proofs.Opened.{Opened, opened}
+use Rattle.encoding.proofs.ValidBytes.{valid-bytes, open-bytes}
 use Rattle.process.proofs.Operations.{start-written, close-closed}
-use Rattle.process.proofs.StaysValid.{within-valid, valid-bytes, open-bytes, closed-on-valid}
+use Rattle.process.proofs.StaysValid.{closed-on-valid}
 
 -- ---- starting
 

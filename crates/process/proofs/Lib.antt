@@ -1,12 +1,7 @@
 -- Laws of the definitions, one for each way that a function ends, which the functions' proofs cite.
-pub mod Bytes
-pub mod Valid
-pub mod Opened
-pub mod Heard
 pub mod Closing
 pub mod Operations
 -- Theorems on the definitions alone.
-pub mod RoundTrip
 pub mod StaysValid
 pub mod Leaves
 pub mod Exchange

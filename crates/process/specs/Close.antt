@@ -3,17 +3,13 @@ use mathlib.Core.Path.{_≡_}
 use mathlib.Core.List.{List}
 use mathlib.Core.Option.{Option, some, none}
 use Prim.Native.Nat.{ℕ, suc, _≤_, _<_}
-use mathlib.Core.Bool.{cond, not, _&&_}
+use mathlib.Core.Bool.{cond, not}
 use lib.Dec.{eqb}
 use lib.ListN.{length, getD}
 use Rattle.protocol.specs.Message.{Messages}
 use Rattle.protocol.specs.Transition.{Outcome, continues, decides, receives}
-use Rattle.process.specs.PartState.{PartState, stateBytes, stateFrom, markOpen, markDecided, markOver, stateRefusal, isOwnRound}
-use Rattle.process.specs.Frame.{messagesFrom}
-
--- What a process takes in a round: its messages; in its own round no byte.
-unfoldable pub heardBy : PartState → List ℕ → Option Messages
-heardBy s heard = cond (isOwnRound s && not (eqb (length heard) 0)) none (messagesFrom (s .round) heard)
+use Rattle.encoding.specs.PartState.{PartState, stateBytes, stateFrom, markOpen, markDecided, markOver, stateRefusal, isOwnRound}
+use Rattle.encoding.specs.Frame.{heardBy}
 
 -- Still open it goes on to the next round; after round t + 1 its rounds are over. A process that decides keeps its deciding round.
 unfoldable pub stateAfter : PartState → Outcome → PartState

@@ -1,6 +1,3 @@
-pub mod PartState
-pub mod Frame
 pub mod Start
 pub mod Speak
 pub mod Close
-pub mod Heard

@@ -1,17 +1,14 @@
 // The process part: starting, speaking and closing a round over nine lent bytes (document 01, 'The desk part' and 'Refused calls').
 // Each operation is total. Its answer and every byte afterwards, on refusals too, are given by the definitions of specs/.
-mod check;
-mod frame;
-mod layout;
 mod transition;
 
-use check::identity_valid;
-use check::state_refusal;
-use frame::Heard;
-use frame::heard_by;
-use layout::number_at;
-use layout::write_frames;
-use layout::write_state;
+use encoding::check::identity_valid;
+use encoding::check::state_refusal;
+use encoding::frame::Heard;
+use encoding::frame::heard_by;
+use encoding::layout::number_at;
+use encoding::layout::write_frames;
+use encoding::layout::write_state;
 use transition::close_on;
 ghost use mathlib.Core.Path.{_≡_};
 ghost use lib.ListN.{length};

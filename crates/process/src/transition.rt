@@ -1,13 +1,13 @@
 // What an open process does at the end of a round (document 01, 'The desk part': "it keeps its value, adopts, or adopts and decides").
-use crate::frame::Messages;
-use crate::layout::number_at;
-use crate::layout::write_state;
+use encoding::frame::Messages;
+use encoding::layout::number_at;
+use encoding::layout::write_state;
 ghost use mathlib.Core.Path.{_≡_};
 ghost use lib.ListN.{length};
 ghost use Rattle.protocol.specs.Transition.{continues, decides};
-ghost use Rattle.process.specs.PartState.{stateFrom, stateBytes};
+ghost use Rattle.encoding.specs.PartState.{stateFrom, stateBytes};
 ghost use Rattle.process.specs.Close.{RoundFits, stateAfter, closedOn};
-ghost use Rattle.process.specs.Heard.{messagesAs};
+ghost use Rattle.encoding.specs.Heard.{messagesAs};
 
 // Writes the state of a process that decides this value.
 fn decide(state: &mut [u8], value: u32)

@@ -2,7 +2,7 @@
 use borrow.Author.Needs.{needs}
 use native.Mathlib.Omega.{arith}
 use mathlib.Core.Path.{ap, _∙_}
-use Rattle.process.specs.Heard.{messagesAs}
+use Rattle.encoding.specs.Heard.{messagesAs}
 use Rattle.process.proofs.Closing.{closed-own, closed-nothing, closed-data, closed-commit}
 use Rattle.process.proofs.transition.close_on.Statement.{statement}
 use Rattle.process.proofs.transition.close_on.Tie as tie

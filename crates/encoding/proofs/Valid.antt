@@ -1,0 +1,163 @@
+-- What the checks of a state come to, one law for each way that they end, what they say where they pass, and which fields pass them. Assumes nothing.
+use mathlib.Core.Path.{_≡_, refl}
+use mathlib.Core.List.{List}
+use mathlib.Core.Bool.{Bool, true, false, _&&_}
+use Prim.Native.Nat.{ℕ, suc, _+_, _≤_, _<_}
+use native.Mathlib.Omega.{arith}
+use native.Mathlib.Numerals.{add-one}
+use lib.Dec.{eqb, leb, ltb}
+use lib.ListN.{length, getD}
+use borrow.Author.Tests.{ltb-true, leb-true, eqb-true, eqb-false, le-leb, lt-leb, lt-ltb, eq-eqb, ne-eqb}
+use Rattle.general.proofs.Tests.{both, refuted}
+use Rattle.protocol.specs.Instance.{withinLimits}
+use Rattle.encoding.specs.PartState.{identityValid, roundValid, fieldsValid, stateValid, stateFrom, stateRefusal}
+
+-- Within the limits every number is a byte.
+pub record Identity (p n t : ℕ) : Type 0 where
+  pub process : 1 ≤ p
+  pub within : p ≤ n
+  pub processes : n ≤ 64
+  pub resilience : t < n
+
+pub identity-says : (p n t : ℕ) → identityValid p n t ≡ true → Identity p n t
+unfolding identityValid withinLimits
+identity-says p n t e =
+    let top = both (withinLimits n t && leb 1 p) (leb p n) e in
+    let next = both (withinLimits n t) (leb 1 p) (top .0) in
+    let limits = both (leb 1 n && leb n 64) (ltb t n) (next .0) in
+    let size = both (leb 1 n) (leb n 64) (limits .0) in
+    record {
+      process = leb-true 1 p (next .1);
+      within = leb-true p n (top .1);
+      processes = leb-true n 64 (size .1);
+      resilience = ltb-true t n (limits .1);
+    }
+
+module _ (p n t : ℕ) where
+  pub identity-fails : (Identity p n t → ⊥) → false ≡ identityValid p n t
+  identity-fails h = refuted (identityValid p n t) (λ e. h (identity-says p n t e))
+
+  pub identity-last : t < n → n ≤ 64 → 1 ≤ p → leb p n ≡ identityValid p n t
+  unfolding identityValid withinLimits
+  identity-last a b d = let one : 1 ≤ n = omega arith in simp le-leb
+
+-- A round that goes with its mark; the code has t + 1 for `suc t`.
+module _ (p t round mark : ℕ) where
+  pub over-other : mark ≡ 2 → (round ≡ t + 1 → ⊥) → false ≡ roundValid p t round mark
+  unfolding roundValid
+  over-other a b = let e : round ≡ suc t → ⊥ = rw add-one at b in simp (eq-eqb, ne-eqb)
+
+  pub over-last : mark ≡ 2 → round ≡ t + 1 → ltb (t + 1) p ≡ roundValid p t round mark
+  unfolding roundValid
+  over-last a b = let e : round ≡ suc t = rw add-one at b in rw add-one (simp eq-eqb)
+
+  pub round-zero : (mark ≡ 2 → ⊥) → round < 1 → false ≡ roundValid p t round mark
+  unfolding roundValid
+  round-zero a b = simp (ne-eqb, lt-leb)
+
+  pub round-late : (mark ≡ 2 → ⊥) → 1 ≤ round → t + 1 < round → false ≡ roundValid p t round mark
+  unfolding roundValid
+  round-late a b d = let e : suc t < round = rw add-one at d in simp (ne-eqb, le-leb, lt-leb)
+
+  pub round-own : (mark ≡ 2 → ⊥) → 1 ≤ round → round ≤ t + 1 → leb round p ≡ roundValid p t round mark
+  unfolding roundValid
+  round-own a b d = let e : round ≤ suc t = rw add-one at d in simp (ne-eqb, le-leb)
+
+-- The bytes of a state, its value apart.
+module _ (p n t round mark : ℕ) where
+  pub fields-identity : identityValid p n t ≡ false → false ≡ fieldsValid p n t round mark
+  unfolding fieldsValid
+  fields-identity a = simp a
+
+  pub fields-mark : identityValid p n t ≡ true → 2 < mark → false ≡ fieldsValid p n t round mark
+  unfolding fieldsValid
+  fields-mark a b = simp (a, lt-leb)
+
+  pub fields-round : identityValid p n t ≡ true → mark ≤ 2 → roundValid p t round mark ≡ fieldsValid p n t round mark
+  unfolding fieldsValid
+  fields-round a b = simp (a, le-leb)
+
+-- An open or decided state's round.
+pub record Within (p t round : ℕ) : Type 0 where
+  pub first : 1 ≤ round
+  pub last : round ≤ suc t
+  pub own : round ≤ p
+
+pub round-within : (p t round mark : ℕ) → (mark ≡ 2 → ⊥) → roundValid p t round mark ≡ true → Within p t round
+unfolding roundValid
+round-within p t round mark h e =
+    let all = both (leb 1 round && leb round (suc t)) (leb round p) (rw (ne-eqb mark 2 h) at e) in
+    let two = both (leb 1 round) (leb round (suc t)) (all .0) in
+    record { first = leb-true 1 round (two .0); last = leb-true round (suc t) (two .1); own = leb-true round p (all .1) }
+
+-- What the fields of a valid state say.
+pub record Fields (p n t round mark : ℕ) : Type 0 where
+  pub identity : Identity p n t
+  pub known : mark ≤ 2
+  pub last : round ≤ suc t
+  pub round-valid : roundValid p t round mark ≡ true
+
+round-last : (over : Bool) (p t round mark : ℕ) → eqb mark 2 ≡ over → roundValid p t round mark ≡ true → round ≤ suc t
+unfolding roundValid
+round-last true p t round mark o e =
+    let two = both (eqb round (suc t)) (ltb (suc t) p) (rw o at e) in
+    let same : round ≡ suc t = eqb-true round (suc t) (two .0) in
+    omega arith
+round-last false p t round mark o e = round-within p t round mark (eqb-false mark 2 o) e .last
+
+pub fields-say : (p n t round mark : ℕ) → fieldsValid p n t round mark ≡ true → Fields p n t round mark
+unfolding fieldsValid
+fields-say p n t round mark e =
+    let all = both (identityValid p n t && leb mark 2) (roundValid p t round mark) e in
+    let two = both (identityValid p n t) (leb mark 2) (all .0) in
+    record {
+      identity = identity-says p n t (two .0);
+      known = leb-true mark 2 (two .1);
+      last = round-last (eqb mark 2) p t round mark refl (all .1);
+      round-valid = all .1;
+    }
+
+-- Which fields pass.
+pub identity-holds : {p n t : ℕ} → Identity p n t → identityValid p n t ≡ true
+unfolding identityValid withinLimits
+identity-holds {p} {n} {t} i =
+    let one : 1 ≤ n = omega arith in
+    rw (le-leb 1 n one, le-leb n 64 (i .processes), lt-ltb t n (i .resilience), le-leb 1 p (i .process), le-leb p n (i .within))
+
+-- Open or decided.
+pub within-valid : {p n t round mark : ℕ} → Identity p n t → mark < 2 → Within p t round → fieldsValid p n t round mark ≡ true
+unfolding fieldsValid roundValid
+within-valid {p} {n} {t} {round} {mark} i m w =
+    let other : eqb mark 2 ≡ false = ne-eqb mark 2 (λ e. omega arith) in
+    let known : leb mark 2 ≡ true = le-leb mark 2 (omega arith) in
+    rw (identity-holds i, known, other, le-leb 1 round (w .first), le-leb round (suc t) (w .last), le-leb round p (w .own))
+
+-- Rounds over.
+pub over-valid : {p n t : ℕ} → Identity p n t → suc t < p → fieldsValid p n t (suc t) 2 ≡ true
+unfolding fieldsValid roundValid
+over-valid {p} {n} {t} i h = rw (identity-holds i, eq-eqb (suc t) (suc t) refl, lt-ltb (suc t) p h)
+
+-- The refusal that speaking and closing share.
+module _ (b : List ℕ) where
+  pub state-length : (length b ≡ 9 → ⊥) → 10 ≡ stateRefusal b
+  unfolding stateRefusal
+  state-length a = simp ne-eqb
+
+  -- Where the mark is open, what the test of an open state comes to.
+  pub open-marked : getD b 4 0 ≡ 0 → (x : Bool) → x ≡ fieldsValid (getD b 0 0) (getD b 1 0) (getD b 2 0) (getD b 3 0) 0 → stateValid (stateFrom b) ≡ x
+  unfolding stateValid stateFrom
+  open-marked h x e = rw (h, e)
+
+  module _ (nine : length b ≡ 9) where
+    pub state-invalid : stateValid (stateFrom b) ≡ false → 10 ≡ stateRefusal b
+    unfolding stateRefusal
+    state-invalid a = simp (eq-eqb, a)
+
+    module _ (valid : stateValid (stateFrom b) ≡ true) where
+      pub state-ended : (getD b 4 0 ≡ 0 → ⊥) → 11 ≡ stateRefusal b
+      unfolding stateRefusal stateFrom
+      state-ended a = simp (eq-eqb, valid, ne-eqb)
+
+      pub state-open : getD b 4 0 ≡ 0 → 0 ≡ stateRefusal b
+      unfolding stateRefusal stateFrom
+      state-open a = simp (eq-eqb, valid)

@@ -1,0 +1,18 @@
+-- The answers of the code's reader, as the definitions' messages (document 01, 'The desk part': "what was heard").
+use mathlib.Core.Option.{Option, some, none}
+use Rattle.protocol.specs.Message as message
+use Rattle.encoding.specs.declared.frame.Messages.{Messages}
+use Rattle.encoding.specs.declared.frame.Messages.the-variants.{Nothing, Estimate, EstimateAndCommit}
+use Rattle.encoding.specs.declared.frame.Heard.{Heard}
+use Rattle.encoding.specs.declared.frame.Heard.the-variants.{Form, NoForm}
+
+-- The messages that the reader names.
+unfoldable pub messagesAs : Messages → message.Messages
+messagesAs Nothing = message.nothing
+messagesAs (Estimate v) = message.estimate v
+messagesAs (EstimateAndCommit v) = message.estimateAndCommit v
+
+-- What the reader answers; bytes of none of the three forms carry no messages.
+unfoldable pub heardAs : Heard → Option message.Messages
+heardAs (Form m) = some (messagesAs m)
+heardAs NoForm = none

@@ -1,0 +1,3 @@
+pub mod PartState
+pub mod Frame
+pub mod Heard
