@@ -62,7 +62,7 @@ module _ (text : List ℕ) (room : ℕ) where
   size-read (refused number line) code told small = absurd (omega (arith, told .isRefusal))
 
   refusal-read : (answer : Reading (List ℕ)) (code : ℕ) → TellsRun text room answer code → refusalsFrom ≤ code → answer ≡ refused (code / refusalsFrom) (code % refusalsFrom)
-  unfolding TellsRun
+  unfolding TellsRun resultSize
   refusal-read (accepted result) code told large = absurd (omega (arith, told .most))
   refusal-read (refused number line) code told large = rw (told .readsNumber, told .readsLine) refl
 

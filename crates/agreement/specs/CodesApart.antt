@@ -29,8 +29,8 @@ pub record TellsSize (text : List ℕ) (room code : ℕ) : Type 0 where
   pub read : readTicket text ≡ accepted instance
   pub ran : running text room ≡ accepted (resultText instance)
   pub size : code ≡ resultSize (instance .processes)
-  pub least : 34 ≤ code
-  pub most : code ≤ 1105
+  pub least : resultSize 1 ≤ code
+  pub most : code ≤ resultSize 64
 
 -- The code of a settling round of the ticket.
 pub record TellsRound (text : List ℕ) (r code : ℕ) : Type 0 where
