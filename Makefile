@@ -2,6 +2,7 @@
 # make run TICKET=FILE    run one ticket
 # make test               everything from nothing: proofs, must-fail edits, programs, and the evidence beyond the proofs
 # make vectors            compute the definitions on every vector of tests/vectors/
+# make unused             list definitions, lemmas and imports that nothing uses
 # make compare            the proved library against the second implementation: SEED=1 COUNT=1000000
 # make bench              speed of both
 # make fuzz               a coverage-guided fuzzer over the C interface: SECONDS=60
@@ -16,22 +17,28 @@ SECONDS ?= 60
 CC ?= cc
 CFLAGS_STRICT = -std=c11 -O2 -g -Wall -Wextra -Wpedantic -Wconversion -Werror -Iinclude
 LIBRARY = target/staticlib/libagreement.a
+SOURCES = crates.txt $(shell find crates -name must-fail -prune -o \( -name '*.rt' -o -name '*.antt' \) -print)
 SECOND = cd second && CARGO_TARGET_DIR=../target/second AGREEMENT_LIB_DIR=$(CURDIR)/target/staticlib cargo
 
 COVERAGE_FLAGS = -Cpasses=sancov-module -Cllvm-args=-sanitizer-coverage-level=3 -Cllvm-args=-sanitizer-coverage-inline-8bit-counters \
   -Cllvm-args=-sanitizer-coverage-pc-table -Cllvm-args=-sanitizer-coverage-trace-compares
 
-.PHONY: all prove run test vectors second-test host-test compare compare-short bench fuzz pictures install
+.PHONY: all prove run test vectors unused second-test host-test compare compare-short bench fuzz pictures install
 
 all: prove $(LIBRARY) target/bin/host
 
 prove:
 	rt check
 
+# What it writes of building goes to standard error, so that standard output has the result alone.
 run:
 	@test -n "$(TICKET)" || { echo 'usage: make run TICKET=FILE'; exit 2; }
-	@test -x target/bin/simulate || rt check simulate >&2
+	@$(MAKE) -s target/bin/simulate >&2
 	@target/bin/simulate < $(TICKET)
+
+target/bin/simulate: $(SOURCES)
+	rt check simulate
+	@touch $@
 
 test:
 	@tools/test
@@ -39,8 +46,9 @@ test:
 vectors:
 	tools/try-vectors
 
-$(LIBRARY):
+$(LIBRARY): $(SOURCES)
 	rt staticlib agreement
+	@touch $@
 
 target/bin/host: examples/host.c include/agreement.h $(LIBRARY)
 	mkdir -p target/bin
@@ -50,8 +58,11 @@ target/bin/host-sanitized: examples/host.c include/agreement.h $(LIBRARY)
 	mkdir -p target/bin
 	$(CC) $(CFLAGS_STRICT) -fsanitize=address,undefined -fno-sanitize-recover=all examples/host.c $(LIBRARY) -o $@
 
-host-test: target/bin/host target/bin/host-sanitized
+host-test: target/bin/host target/bin/host-sanitized target/bin/simulate
 	tools/host-test target/bin/host-sanitized target/bin/simulate
+
+unused:
+	tools/unused
 
 second-test:
 	$(SECOND) test --quiet
@@ -74,13 +85,11 @@ fuzz: $(LIBRARY)
 	clang -g -O1 -std=c11 -fsanitize=fuzzer,address,undefined second/fuzz/fuzz.c $(LIBRARY) target/fuzz/second/release/liboracle.a -o target/fuzz/fuzz
 	target/fuzz/fuzz -max_len=4200 -max_total_time=$(SECONDS) target/fuzz/corpus
 
-pictures:
-	@test -x target/bin/simulate || rt check simulate >&2
+pictures: target/bin/simulate
 	mkdir -p docs/pictures
 	for t in examples/*.ticket; do target/bin/simulate < $$t > target/result && tools/draw-run $$t target/result docs/pictures/$$(basename $$t .ticket).svg; done
 
-install: $(LIBRARY)
-	@test -x target/bin/simulate || rt check simulate >&2
+install: $(LIBRARY) target/bin/simulate
 	install -d $(DESTDIR)$(PREFIX)/bin $(DESTDIR)$(PREFIX)/include $(DESTDIR)$(PREFIX)/lib/pkgconfig
 	install -m 755 target/bin/simulate $(DESTDIR)$(PREFIX)/bin/
 	install -m 644 include/agreement.h $(DESTDIR)$(PREFIX)/include/
