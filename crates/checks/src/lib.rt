@@ -48,7 +48,7 @@ pub fn places_crash(n: u8, t: u8, last: u8, l: FailureLine) -> bool
     l.step <= 2
 }
 
-// The set of processes 1 to p. (A shift by 64 is not to be had.)
+// The set of processes 1 to p. (A shift by 64 is not allowed.)
 fn first_processes(p: u8) -> u64
     requires { ⌜ (1 ≤ p) × (p ≤ 64) ⌝ }
     ensures { λ r. ⌜ r ≡ 2 ^ p - 1 ⌝ }

@@ -10,8 +10,8 @@ ghost use Rattle.lines.specs.Bytes.{byteAt, bytesAt, HoldsBytes};
 
 const NO_DIGIT: u8 = 16;
 
-// The value of a byte as a digit, 0 to 15, or the mark of a byte that is none.
-pub fn digit_value(c: u8) -> u8
+// The value of a byte as a digit, 0 to 15, or the mark of a byte that is none. (55 is A less 10.)
+fn digit_value(c: u8) -> u8
     ensures { λ r. ⌜ r ≡ digitValue c ⌝ }
 {
     if c < b'0' {
@@ -110,6 +110,7 @@ pub fn line_byte(text: &[u8], at: usize, k: usize) -> u8
     high * 16 + low
 }
 
+// A byte as a word.
 fn wide(x: u8) -> u64
     ensures { λ r. ⌜ r ≡ x ⌝ }
 {

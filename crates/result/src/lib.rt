@@ -68,25 +68,25 @@ fn value_line(kind: u8, p: u8, end: u8, round: u8, value: u32) -> [u8; 8]
     ]
 }
 
-// The bytes of a process's line. (17 is 11 in hexadecimal.)
+// The bytes of a process's line.
 fn process_bytes(p: u8, end: u8, round: u8, value: u32) -> [u8; 8]
-    ensures { λ r. ⌜ r ≡ 17 ∷ p ∷ endBytes (stateByEnd end round value) ⌝ }
+    ensures { λ r. ⌜ r ≡ 0x11 ∷ p ∷ endBytes (stateByEnd end round value) ⌝ }
 {
     if end == 0 {
-        return value_line(17, p, 0, 0, value);
+        return value_line(0x11, p, 0, 0, value);
     }
     if end == 1 {
-        return value_line(17, p, 1, round, value);
+        return value_line(0x11, p, 1, round, value);
     }
-    value_line(17, p, 2, round, 0)
+    value_line(0x11, p, 2, round, 0)
 }
 
-// The bytes of the last line. (18 is 12 in hexadecimal.)
+// The bytes of the last line.
 fn last_bytes(rounds: u8, f: u8, speakers: u8, sent: u16, commits: u16) -> [u8; 8]
-    ensures { λ r. ⌜ r ≡ 18 ∷ rounds ∷ f ∷ speakers ∷ bytesOf 2 sent ++ bytesOf 2 commits ⌝ }
+    ensures { λ r. ⌜ r ≡ 0x12 ∷ rounds ∷ f ∷ speakers ∷ bytesOf 2 sent ++ bytesOf 2 commits ⌝ }
 {
     [
-        18,
+        0x12,
         rounds,
         f,
         speakers,

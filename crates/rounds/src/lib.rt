@@ -1,5 +1,5 @@
 // The rounds of an instance (document 01, 'A round'): one round of all processes, the whole run, and f.
-// The instance and the run are tables by value, which go through each round and come back.
+// The instance and the run are tables by value; the run goes through each round and comes back.
 ghost use mathlib.Core.Path.{_≡_};
 ghost use Prim.Native.Nat.{_≤_};
 ghost use lib.ListN.{length};

@@ -13,6 +13,7 @@ pub struct InstanceTable {
 }
 
 // Document 01: the table of 64 stations, with each one's value, round and end (00 undecided, 01 decided, 02 crashed); and what the run has counted.
+// `ended` is the round of each end, and `sent` the data messages.
 pub struct RunTable {
     pub ends: [u8; 64],
     pub ended: [u8; 64],

@@ -1,4 +1,4 @@
--- What a process becomes, one law for each answer of the far over plain numbers: its premises are the tests that lead there. Assumes nothing.
+-- What a process becomes, one law for each answer of the code, over plain numbers: its premises are the tests that lead there. Assumes nothing.
 use mathlib.Core.Path.{_≡_, refl}
 use Prim.Native.Nat.{ℕ, _≤_}
 use mathlib.Core.Bool.{false}

@@ -13,7 +13,7 @@ use crate::Entry;
 use crate::FaultEntry;
 
 // How many processes are in a set, by the count of ones.
-pub fn size(reached: u64) -> u8
+fn size(reached: u64) -> u8
     ensures ones { λ k. ⌜ k ≡ ones64 reached ⌝ }
     ensures members { λ k. ⌜ k ≡ length (membersTo 64 reached) ⌝ }
 {
@@ -21,7 +21,7 @@ pub fn size(reached: u64) -> u8
 }
 
 // The data messages of a speaker with this fault in its round r; `whole` is the count of one that sends all.
-pub fn data_of(whole: u8, r: u8, fault: FaultEntry) -> u8
+fn data_of(whole: u8, r: u8, fault: FaultEntry) -> u8
     requires { ⌜ 1 ≤ r ⌝ }
     ensures { λ k. ⌜ k ≡ countIn dataAt whole r (entryFault fault) ⌝ }
 {
@@ -38,7 +38,7 @@ pub fn data_of(whole: u8, r: u8, fault: FaultEntry) -> u8
 }
 
 // The commit messages of a speaker with this fault in its round r.
-pub fn commits_of(whole: u8, r: u8, fault: FaultEntry) -> u8
+fn commits_of(whole: u8, r: u8, fault: FaultEntry) -> u8
     requires { ⌜ 1 ≤ r ⌝ }
     ensures { λ k. ⌜ k ≡ countIn commitsAt whole r (entryFault fault) ⌝ }
 {

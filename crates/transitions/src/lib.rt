@@ -26,16 +26,16 @@ pub struct FaultEntry {
 }
 
 // Whether process p is in a set: bit p - 1, by shift.
-pub fn is_member(p: u8, set: u64) -> bool
+fn is_member(p: u8, set: u64) -> bool
     requires { ⌜ (1 ≤ p) × (p ≤ 64) ⌝ }
     ensures { λ b. ⌜ b ≡ member p set ⌝ }
 {
     (set >> (p - 1)) % 2 == 1
 }
 
-// How far the messages of coordinator r, which has this fault, to process p get: 0 no message, 1 the data message, 2 the commit too.
+// How far the messages of coordinator r to process p get, by its fault: 0 no message, 1 the data message, 2 the commit too.
 // Commits go to n, n - 1 and so on downward, so the first `count` of them go to the processes above n - count.
-pub fn reach_to(n: u8, r: u8, fault: FaultEntry, p: u8) -> u8
+fn reach_to(n: u8, r: u8, fault: FaultEntry, p: u8) -> u8
     requires { ⌜ (1 ≤ r) × (1 ≤ p) × (p ≤ n) × (n ≤ 64) ⌝ }
     ensures { λ far. ⌜ reachFrom far ≡ reach n (entryFault fault) r p ⌝ }
 {
@@ -61,7 +61,7 @@ pub fn reach_to(n: u8, r: u8, fault: FaultEntry, p: u8) -> u8
 }
 
 // What process p hears in round r: how far the messages of the coordinator get, which has this fault and began the round in the state c.
-pub fn heard(n: u8, r: u8, fault: FaultEntry, c: Entry, p: u8) -> u8
+fn heard(n: u8, r: u8, fault: FaultEntry, c: Entry, p: u8) -> u8
     requires { ⌜ (1 ≤ r) × (1 ≤ p) × (p ≤ n) × (n ≤ 64) ⌝ }
     ensures { λ far. ⌜ messagesReaching far (c .value) ≡ received n r (entryFault fault) (entryState c) p ⌝ }
 {
@@ -72,7 +72,7 @@ pub fn heard(n: u8, r: u8, fault: FaultEntry, c: Entry, p: u8) -> u8
 }
 
 // What process p becomes in round r when the messages with this value get so far. Of its fault only the crash round `own` matters, 0 if it is correct.
-pub fn on_hearing(r: u8, p: u8, own: u8, far: u8, value: u32, s: Entry) -> Entry
+fn on_hearing(r: u8, p: u8, own: u8, far: u8, value: u32, s: Entry) -> Entry
     requires { ⌜ 1 ≤ r ⌝ }
     ensures { λ e. ⌜ ((step set count : ℕ) → entryState e ≡ after r p (faultFrom own step set count) (messagesReaching far value) (entryState s)) ⌝ }
 {
