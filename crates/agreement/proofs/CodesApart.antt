@@ -21,8 +21,8 @@ use Rattle.result.specs.ResultLine.{resultText, resultSize}
 use Rattle.result.proofs.ResultLine.{length-result}
 use Rattle.running.specs.Running.{resultIn, running}
 use Rattle.running.specs.Settle.{Settles}
-use Rattle.agreement.specs.Code.{refusalCode, runCode, settleCode, SettlesAs}
-use Rattle.agreement.specs.CodesApart.{refusalsFrom, TellsRefusal, TellsSize, TellsRound, TellsRun, TellsSettling, CodesApart}
+use Rattle.agreement.specs.Code.{refusalsFrom, refusalCode, runCode, settleCode, SettlesAs}
+use Rattle.agreement.specs.CodesApart.{TellsRefusal, TellsSize, TellsRound, TellsRun, TellsSettling, CodesApart}
 
 refusal-told : (most number line : ℕ) → 1 ≤ number → number ≤ most → line < refusalsFrom → TellsRefusal most number line (refusalCode number line)
 refusal-told most number line some few short =

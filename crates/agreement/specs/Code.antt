@@ -7,9 +7,13 @@ use Rattle.ticket.specs.Reading.{Reading, accepted, refused}
 use Rattle.running.specs.Settle.{Settles}
 use Rattle.ticket.specs.Ticket.{readTicket}
 
--- A refusal and its line as one number, at least 65536.
+-- From here on a code is a refusal's.
+abbrev pub refusalsFrom : ℕ
+refusalsFrom = 65536
+
+-- A refusal and its line as one number.
 abbrev pub refusalCode : ℕ → ℕ → ℕ
-refusalCode number line = 65536 * number + line
+refusalCode number line = refusalsFrom * number + line
 
 -- Running: the bytes of the result, or the refusal.
 unfoldable pub runCode : Reading (List ℕ) → ℕ

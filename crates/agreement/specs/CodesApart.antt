@@ -9,11 +9,7 @@ use Rattle.ticket.specs.Reading.{Reading, accepted, refused}
 use Rattle.ticket.specs.Ticket.{readTicket}
 use Rattle.result.specs.ResultLine.{resultText, resultSize}
 use Rattle.running.specs.Running.{running}
-use Rattle.agreement.specs.Code.{runCode, SettlesAs}
-
--- From here on a code is a refusal's.
-abbrev pub refusalsFrom : ℕ
-refusalsFrom = 65536
+use Rattle.agreement.specs.Code.{refusalsFrom, runCode, SettlesAs}
 
 -- The code of a refusal: its number, from 1 to `most`, and its line are read off by division.
 pub record TellsRefusal (most number line code : ℕ) : Type 0 where
@@ -50,7 +46,7 @@ unfoldable pub TellsSettling : List ℕ → Reading ℕ → ℕ → Type 0
 TellsSettling text (accepted r) code = TellsRound text r code
 TellsSettling text (refused number line) code = TellsRefusal 8 number line code
 
--- Every answer's code tells it; and a code is at least 65536 just if the answer is the refusal that is read off it.
+-- Every answer's code tells it; and a code is at least `refusalsFrom` just if the answer is the refusal that is read off it.
 pub record CodesApart : Type 0 where
   pub run : (text : List ℕ) (room : ℕ) → TellsRun text room (running text room) (runCode (running text room))
   pub runAccepted : (text : List ℕ) (room code : ℕ) → code ≡ runCode (running text room) → code < refusalsFrom → TellsSize text room code

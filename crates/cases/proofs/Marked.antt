@@ -1,7 +1,6 @@
 -- Cases 1 to 12 of document 01 are what the definitions give: reading, rounds, counts and layout, from the ticket's text to the text written.
 -- Both sides are computed, so the line below names every definition on the way. Assumes nothing.
-use mathlib.Core.List.{map}
-use mathlib.Core.Path.{_≡_, refl}
+use mathlib.Core.Path.{refl}
 use lib.Count.{onesIn}
 use Rattle.general.specs.Bits.{member, ones64}
 use Rattle.general.specs.BigEndian.{number, numberFrom, bytesOf}
@@ -25,10 +24,10 @@ use Rattle.ticket.specs.Ticket.{atEnd, readTicket}
 use Rattle.result.specs.HexText.{digitOf, hexDigits, hexLine}
 use Rattle.result.specs.ResultLine.{endBytes, processLine, lastLine, joined, resultLines, resultText, resultSize, refusalLine}
 use Rattle.running.specs.Running.{resultIn, running, written, programWrites}
-use Rattle.cases.specs.Marked.{writes, says}
+use Rattle.cases.specs.Marked.{writes, says, MarkedCases}
 use Rattle.cases.specs.Table.{textOf, case1, case2, case3, case4, case5, case6, case7, case8, case9, case10, case10Passes, case11, case12, cases}
 
 -- For each case the program writes what the case says.
-pub marked-cases : map writes cases ≡ map says cases
-unfolding writes says cases textOf ascii case1 case2 case3 case4 case5 case6 case7 case8 case9 case10 case10Passes case11 case12 onesIn member ones64 number numberFrom bytesOf mapFrom pointFrom faultOf withinLimits arriving sends receives amongFirst reachAt reachIn reach stateOf crashesIn sentBy received afterOutcome after statesAfter isUndecided anyUndecided dataAt commitsAt countIn speaks dataIn commitsIn isIdle countsAsCrash crashCount initial withRound runTo runOf crashesOf digitValue isDigit scan closed unclosed linesFrom linesOf proceed readFrom isKind acceptHeader afterProposal acceptProposal failureLine placesCrash allBetween suitsStep withCrash acceptCrash acceptFailure accept atEnd readTicket digitOf hexDigits hexLine endBytes processLine lastLine joined resultLines resultText resultSize refusalLine resultIn running written programWrites
+pub marked-cases : MarkedCases
+unfolding MarkedCases writes says cases textOf ascii case1 case2 case3 case4 case5 case6 case7 case8 case9 case10 case10Passes case11 case12 onesIn member ones64 number numberFrom bytesOf mapFrom pointFrom faultOf withinLimits arriving sends receives amongFirst reachAt reachIn reach stateOf crashesIn sentBy received afterOutcome after statesAfter isUndecided anyUndecided dataAt commitsAt countIn speaks dataIn commitsIn isIdle countsAsCrash crashCount initial withRound runTo runOf crashesOf digitValue isDigit scan closed unclosed linesFrom linesOf proceed readFrom isKind acceptHeader afterProposal acceptProposal failureLine placesCrash allBetween suitsStep withCrash acceptCrash acceptFailure accept atEnd readTicket digitOf hexDigits hexLine endBytes processLine lastLine joined resultLines resultText resultSize refusalLine resultIn running written programWrites
 marked-cases = refl

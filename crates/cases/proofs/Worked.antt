@@ -1,12 +1,8 @@
--- What document 01 says besides of two of its cases: in case 1 both rounds 1 and 2 qualify as settling round ('The result', last paragraph), and no other;
--- and case 9 meets the bound by speakers exactly, where document 001's Theorem 2 fails ('A round', third paragraph, and 'Worked runs'). Computed from the tickets. Assumes nothing.
-use mathlib.Core.List.{[], _∷_}
-use mathlib.Core.Path.{_≡_, refl}
-use mathlib.Core.Bool.{_&&_}
-use Prim.Native.Nat.{ℕ, zero, suc, _*_, _≤_, _<_}
+-- What document 01 says besides of cases 1 and 9 (specs/Worked), computed from the tickets. Assumes nothing.
+use mathlib.Core.Path.{refl}
+use Prim.Native.Nat.{zero, suc, _≤_, _<_}
 use native.Mathlib.Omega.{arith}
 use lib.Count.{onesIn}
-use lib.Dec.{leb}
 use borrow.Author.Tests.{le-leb, lt-leb}
 use Rattle.general.specs.Bits.{member, ones64}
 use Rattle.general.specs.BigEndian.{number, numberFrom}
@@ -29,11 +25,10 @@ use Rattle.checks.specs.FailureLine.{placesCrash, allBetween, suitsStep}
 use Rattle.kinds.specs.Accept.{isKind, acceptHeader, afterProposal, acceptProposal, failureLine, withCrash, acceptCrash, acceptFailure, accept}
 use Rattle.ticket.specs.Ticket.{atEnd, readTicket}
 use Rattle.cases.specs.Table.{textOf, case1, case9}
-use Rattle.cases.specs.Worked.{qualifiesIn, boundsOf}
+use Rattle.cases.specs.Worked.{qualifiesIn, Case1Settles, boundsOf, Case9MeetsBound}
 
--- Case 1: rounds 1 and 2 qualify, and no other.
-pub case-1-settles : (r : ℕ) → qualifiesIn (readTicket (textOf (case1 .ticket))) r ≡ (leb 1 r && leb r 2)
-unfolding qualifiesIn textOf ascii case1 onesIn member ones64 number numberFrom mapFrom pointFrom faultOf withinLimits arriving sends receives amongFirst reachAt reachIn reach stateOf crashesIn sentBy received afterOutcome after statesAfter isUndecided anyUndecided dataAt commitsAt countIn speaks dataIn commitsIn isIdle countsAsCrash crashCount initial withRound runTo runOf crashesOf valuesHeld allAre oneValue qualifies digitValue isDigit scan closed unclosed linesFrom linesOf proceed readFrom isKind acceptHeader afterProposal acceptProposal failureLine placesCrash allBetween suitsStep withCrash acceptCrash acceptFailure accept atEnd readTicket
+pub case-1-settles : Case1Settles
+unfolding Case1Settles qualifiesIn textOf ascii case1 onesIn member ones64 number numberFrom mapFrom pointFrom faultOf withinLimits arriving sends receives amongFirst reachAt reachIn reach stateOf crashesIn sentBy received afterOutcome after statesAfter isUndecided anyUndecided dataAt commitsAt countIn speaks dataIn commitsIn isIdle countsAsCrash crashCount initial withRound runTo runOf crashesOf valuesHeld allAre oneValue qualifies digitValue isDigit scan closed unclosed linesFrom linesOf proceed readFrom isKind acceptHeader afterProposal acceptProposal failureLine placesCrash allBetween suitsStep withCrash acceptCrash acceptFailure accept atEnd readTicket
 case-1-settles zero = refl
 case-1-settles (suc zero) = refl
 case-1-settles (suc (suc zero)) = refl
@@ -42,7 +37,6 @@ case-1-settles (suc (suc (suc r))) =
     let some : 1 ≤ suc (suc (suc r)) = omega arith in
     simp (le-leb 1 (suc (suc (suc r))) some, lt-leb (suc (suc (suc r))) 2 past)
 
--- Case 9: 10 processes, 9 crashes, 7 speakers; 63 messages, which is the bound; document 001 gives 55.
-pub case-9-meets-bound : boundsOf (readTicket (textOf (case9 .ticket))) ≡ 10 ∷ 9 ∷ 7 ∷ 63 ∷ 63 ∷ (2 * 55) ∷ []
-unfolding boundsOf textOf ascii case9 onesIn member ones64 number numberFrom mapFrom pointFrom faultOf withinLimits arriving sends receives amongFirst reachAt reachIn reach stateOf crashesIn sentBy received afterOutcome after statesAfter isUndecided anyUndecided dataAt commitsAt countIn speaks dataIn commitsIn isIdle countsAsCrash crashCount initial withRound runTo runOf crashesOf digitValue isDigit scan closed unclosed linesFrom linesOf proceed readFrom isKind acceptHeader afterProposal acceptProposal failureLine placesCrash allBetween suitsStep withCrash acceptCrash acceptFailure accept atEnd readTicket
+pub case-9-meets-bound : Case9MeetsBound
+unfolding Case9MeetsBound boundsOf textOf ascii case9 onesIn member ones64 number numberFrom mapFrom pointFrom faultOf withinLimits arriving sends receives amongFirst reachAt reachIn reach stateOf crashesIn sentBy received afterOutcome after statesAfter isUndecided anyUndecided dataAt commitsAt countIn speaks dataIn commitsIn isIdle countsAsCrash crashCount initial withRound runTo runOf crashesOf digitValue isDigit scan closed unclosed linesFrom linesOf proceed readFrom isKind acceptHeader afterProposal acceptProposal failureLine placesCrash allBetween suitsStep withCrash acceptCrash acceptFailure accept atEnd readTicket
 case-9-meets-bound = refl

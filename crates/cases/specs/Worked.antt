@@ -1,17 +1,25 @@
 -- What document 01 says of a case besides its result: which rounds qualify as settling round ('The result', last paragraph), and the two bounds on messages ('A round', third paragraph).
 use mathlib.Core.List.{List, [], _∷_}
-use mathlib.Core.Bool.{Bool, false}
+use mathlib.Core.Path.{_≡_}
+use mathlib.Core.Bool.{Bool, false, _&&_}
 use Prim.Native.Nat.{ℕ, _+_, _-_, _*_}
+use lib.Dec.{leb}
 use Rattle.protocol.specs.Instance.{Instance}
 use Rattle.protocol.specs.Run.{runOf, crashesOf}
 use Rattle.protocol.specs.SpeakerBound.{boundBySpeakers}
 use Rattle.protocol.specs.Settling.{qualifies}
 use Rattle.ticket.specs.Reading.{Reading, accepted, refused}
+use Rattle.ticket.specs.Ticket.{readTicket}
+use Rattle.cases.specs.Table.{textOf, case1, case9}
 
 -- Whether round r qualifies in the run of a ticket as read.
 unfoldable pub qualifiesIn : Reading Instance → ℕ → Bool
 qualifiesIn (accepted x) r = qualifies x r
 qualifiesIn (refused refusal line) r = false
+
+-- The claim on case 1: the rounds that qualify are 1 and 2, and no other (document 01, 'The result': "In case 1 both 1 and 2 qualify").
+unfoldable pub Case1Settles : Type 0
+Case1Settles = (r : ℕ) → qualifiesIn (readTicket (textOf (case1 .ticket))) r ≡ (leb 1 r && leb r 2)
 
 -- Twice document 001's bound of Theorem 2, (f + 1)(2n − 1 − 3f/2), for f crashes among n processes.
 abbrev pub twiceTheorem2 : (n f : ℕ) → ℕ
@@ -25,3 +33,7 @@ boundsOf (accepted x) =
     ∷ twiceTheorem2 (x .processes) (crashesOf x)
     ∷ []
 boundsOf (refused refusal line) = []
+
+-- The claim on case 9: of 10 processes 9 crash and 7 speak, and they send 63 messages, which is the bound (document 01, 'Worked runs': "f 9, speakers 7, data 42, commits 21, sum 63, the bound exactly; document 001 gives 55", by its Theorem 2).
+unfoldable pub Case9MeetsBound : Type 0
+Case9MeetsBound = boundsOf (readTicket (textOf (case9 .ticket))) ≡ 10 ∷ 9 ∷ 7 ∷ 63 ∷ 63 ∷ (2 * 55) ∷ []

@@ -2,7 +2,8 @@
 use mathlib.Core.Path.{refl, sym, ap, _∙_}
 use Rattle.protocol.specs.Run.{crashesOf}
 use Rattle.protocol.specs.Consensus.{CountsCrashes, endOf, latestOf}
-use Rattle.protocol.specs.CrashCount.{crashCount}
+use Rattle.protocol.specs.CrashCount.{crashCount, crashedCount}
+use Rattle.protocol.proofs.CrashCount.{crashes-are-crashed}
 use Rattle.protocol.proofs.Consensus.{uniform-consensus}
 use Rattle.protocol.proofs.Pair.{no-later}
 use Rattle.protocol.proofs.SameEnds.{SameEnds, consensus-same, no-later-same, ends-in-order}
@@ -18,14 +19,19 @@ rounds-claim =
     record {
       consensus = λ text x read. uniform-consensus x (accepted-well-formed text x read);
       crashes = λ text x read. ap (crashCount (x .pattern)) (sym (ends-in-order x (accepted-well-formed text x read) (endOf x) (λ p process. refl)));
+      crashed = λ text x read.
+          let formed = accepted-well-formed text x read in
+          crashes-are-crashed x formed ∙ ap crashedCount (sym (ends-in-order x formed (endOf x) (λ p process. refl)));
       noLater = λ a b x y read read′ paired. no-later x y (accepted-well-formed a x read) (accepted-well-formed b y read′) (texts-paired a b x y read read′ paired);
     }
 
 output-claim : OutputClaim
-unfolding CountsCrashes crashesOf latestOf
+unfolding CountsCrashes crashesOf latestOf SameEnds
 output-claim =
     record {
       accepts = written-accepted;
+      said = λ text x out wrote p process. sym (ends-said text x out wrote p process);
+      saidCrashes = f-said;
       consensus = λ text x out wrote.
           let same = ends-said text x out wrote in
           rw (f-said text x out wrote) (consensus-same x (endOf x) (endSaid out) same (latestOf x) (rounds-claim .consensus text x (wrote .read)));

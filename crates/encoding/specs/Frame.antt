@@ -15,7 +15,7 @@ dataFrame r v = 0x21 ∷ r ∷ bytesOf 4 v
 unfoldable pub commitFrame : ℕ → List ℕ
 commitFrame r = 0x22 ∷ r ∷ []
 
--- Messages whose value the four bytes of a frame can carry.
+-- For the proofs alone, and nothing that document 01 states: messages whose value the four bytes of a frame can carry.
 unfoldable pub Carried : Messages → Type 0
 Carried nothing = Unit
 Carried (estimate v) = v < 2 ^ 32

@@ -7,7 +7,7 @@ use Rattle.lines.specs.Line.{bytes, linesOf}
 use Rattle.lines.specs.Bytes.{byteAt, bytesAt, HoldsBytes}
 use Rattle.lines.specs.declared.Cursor.{Cursor}
 
--- A line of `size` bytes begins at place `at`, and the next one at `next`.
+-- For the proofs alone, a consequence of `linesOf`: a line of `size` bytes begins at place `at`, and the next one at `next`.
 pub record LineAt (text : List ℕ) (at size : ℕ) (next : Cursor) : Type 0 where
   pub some : 0 < size
   pub holds : HoldsBytes text at size

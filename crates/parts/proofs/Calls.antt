@@ -19,7 +19,7 @@ use Rattle.encoding.proofs.Opened.{opened}
 use Rattle.process.proofs.Operations.{length-frames, close-refused}
 use Rattle.encoding.proofs.RoundTrip.{state-from-bytes}
 use Rattle.encoding.proofs.ValidBytes.{open-bytes}
-use Rattle.parts.specs.Part.{outputRoom}
+use Rattle.parts.specs.Part.{outputRoom, OutputYielded}
 
 -- A part that is not open.
 module _ (b : List ℕ) (ended : stateFrom b .mark ≡ 0 → ⊥) where
@@ -60,10 +60,9 @@ speak-refusal b room =
     zero-or-refusal (not (eqb (length b) 9 && stateValid (stateFrom b))) (not (eqb (stateFrom b .mark) markOpen)) (ltb room (length (spokenBy (stateFrom b))))
     (stateRefusal b) _ refl refl
 
--- The host finds what a part yields at the front of its buffer, as many bytes as the answer says; an answer above 8 is a refusal.
-pub output-yielded : (b output : List ℕ) → length output ≡ outputRoom → speakAnswer b (length output) ≤ 8
-    → take (speakAnswer b (length output)) (speakOutput b output) ≡ speakYields b outputRoom
-unfolding speakAnswer speakOutput
+-- The host finds in its buffer what a part yields.
+pub output-yielded : OutputYielded
+unfolding OutputYielded speakAnswer speakOutput
 output-yielded b output room answered = by-answer (speak-refusal b (length output))
   where
     by-answer : (speakRefusal b (length output) ≡ 0) ⊎ (8 < speakRefusal b (length output)) → take (speakAnswer b (length output)) (speakOutput b output) ≡ speakYields b outputRoom

@@ -24,7 +24,7 @@ partState x p round mark v =
 abbrev pub partBytes : Instance → (p round mark v : ℕ) → List ℕ
 partBytes x p round mark v = stateBytes (partState x p round mark v)
 
--- The state of process p after rounds 1 to r in the run, and its part then: open in the next round with the same estimate, after the last round with the mark
+-- For the proofs alone, a step on the way to `DecideAlike`. The state of process p after rounds 1 to r in the run, and its part then: open in the next round with the same estimate, after the last round with the mark
 -- "rounds over"; decided in the same round on the same value; crashed in the same round, with the bytes with which that round began.
 pub data Alike (x : Instance) (r p : ℕ) : State → Part → Type 0 where
   bothOpen : {v : ℕ} → r ≤ x .resilience → Alike x r p (undecided v) (up (partBytes x p (suc r) markOpen v))

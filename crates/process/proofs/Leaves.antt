@@ -1,4 +1,4 @@
--- What an accepted start and an accepted close leave: nine bytes of a valid state again. Assumes nothing.
+-- What an accepted start and an accepted close leave: nine bytes of a valid state again (`leaves-valid`). Assumes nothing.
 use mathlib.Core.Path.{_≡_, refl, sym}
 use mathlib.Core.List.{List}
 use mathlib.Core.Option.{Option, some, none}
@@ -13,6 +13,7 @@ use Rattle.encoding.specs.PartState.{stateBytes, stateFrom, identityValid, stat
 use Rattle.encoding.specs.Frame.{heardBy}
 use Rattle.process.specs.Start.{startState, startRefusal, startBytes}
 use Rattle.process.specs.Close.{closedOn, heardRefusal, closeRefusal, closeState}
+use Rattle.process.specs.Leaves.{LeavesValid}
 use Rattle.general.proofs.Tests.{both}
 use Rattle.encoding.proofs.Valid.{identity-says, within-valid}
 use Rattle.encoding.proofs.Opened.{Opened, opened}
@@ -41,11 +42,11 @@ module _ (p n t v : ℕ) (lent : List ℕ) (accepted : startRefusal p n t lent �
       let i = identity-says p n t (limits .0) in
       within-valid i (omega arith) (record { first = omega arith; last = omega arith; own = omega arith })
 
-  pub start-leaves-valid : ValidBytes (startBytes p n t v lent)
+  start-leaves-valid : ValidBytes (startBytes p n t v lent)
   start-leaves-valid = rw start-leaves (valid-bytes (startState p n t v) start-valid)
 
   -- The process may go on from there.
-  pub start-leaves-open : stateRefusal (startBytes p n t v lent) ≡ 0
+  start-leaves-open : stateRefusal (startBytes p n t v lent) ≡ 0
   unfolding startState
   start-leaves-open = rw start-leaves (open-bytes (startState p n t v) start-valid refl)
 
@@ -80,9 +81,14 @@ module _ (state heard : List ℕ) (accepted : closeRefusal state heard ≡ 0) wh
       let parts = accepted-state (eqb (stateRefusal state) 0) (stateRefusal state) (heardRefusal (heardBy (stateFrom state) heard)) refl accepted in
       accepted-heard state heard (opened state (stateRefusal state) refl (parts .0)) (heardBy (stateFrom state) heard) refl (parts .1)
 
-  pub close-leaves-valid : ValidBytes (closeState state heard)
+  close-leaves-valid : ValidBytes (closeState state heard)
   unfolding stateFrom
   close-leaves-valid =
       let a = close-accepted in
       let o = a .before in
       rw (a .left) (valid-bytes (closedOn (stateFrom state) (a .messages)) (closed-on-valid (stateFrom state) (o .valid) (o .mark) (a .messages)))
+
+-- ---- both
+
+pub leaves-valid : LeavesValid
+leaves-valid = record { afterStart = start-leaves-valid; openAfterStart = start-leaves-open; afterClose = close-leaves-valid }

@@ -1,3 +1,4 @@
 pub mod Start
 pub mod Speak
 pub mod Close
+pub mod Leaves

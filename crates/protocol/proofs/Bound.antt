@@ -11,7 +11,7 @@ use Rattle.protocol.specs.Undecided.{isUndecided}
 use Rattle.protocol.specs.Count.{speaks}
 use Rattle.protocol.specs.Run.{Run, initial, runTo, runOf, crashesOf}
 use Rattle.protocol.specs.WellFormed.{WellFormed}
-use Rattle.protocol.specs.SpeakerBound.{boundBySpeakers, AtMostBySpeakers, SpeakerBound}
+use Rattle.protocol.specs.SpeakerBound.{boundBySpeakers, SpeakerBound}
 use Rattle.protocol.proofs.Pointwise.{stateAt}
 use Rattle.protocol.proofs.Undecided.{value-of-undecided}
 use Rattle.protocol.proofs.Counts.{speakers-le, data-in-le, commits-in-le}
@@ -56,8 +56,9 @@ total-at : (estimates commits j d : ℕ) → 2 * estimates + suc j * suc (suc j)
     → 2 * (estimates + commits) + suc j * j ≤ 2 * (suc j * (2 * d + j))
 total-at estimates commits j d h g = omega arith
 
-total : (estimates commits k n : ℕ) → k ≤ n → 2 * estimates + k * suc k ≤ 2 * (k * n) → commits ≤ k * (n - k) → AtMostBySpeakers n k (estimates + commits)
-unfolding AtMostBySpeakers
+-- Of k speakers among n: the bound doubled, with what it subtracts on the other side.
+total : (estimates commits k n : ℕ) → k ≤ n → 2 * estimates + k * suc k ≤ 2 * (k * n) → commits ≤ k * (n - k)
+    → 2 * (estimates + commits) + k * (k - 1) ≤ 2 * (k * (2 * n - k - 1))
 total estimates commits zero n h e c = omega arith
 total estimates commits (suc j) n h e c =
     let split : n ≡ n - suc j + suc j = omega arith in
@@ -65,10 +66,9 @@ total estimates commits (suc j) n h e c =
     let others : 2 * n - suc j - 1 ≡ 2 * (n - suc j) + j = omega arith in
     rw (before, others) (total-at estimates commits j (n - suc j) (subst (λ (m : ℕ). 2 * estimates + suc j * suc (suc j) ≤ 2 * (suc j * m)) split e) c)
 
--- In document 01's own form: k(k - 1) is even.
-as-stated : (n k messages : ℕ) → AtMostBySpeakers n k messages → messages ≤ boundBySpeakers n k
-unfolding AtMostBySpeakers
-as-stated n k messages h = omega arith
+-- The bound itself.
+halved : (n k messages : ℕ) → 2 * messages + k * (k - 1) ≤ 2 * (k * (2 * n - k - 1)) → messages ≤ boundBySpeakers n k
+halved n k messages h = omega arith
 
 module _ (x : Instance) (formed : WellFormed x) where
   -- The commits of m rounds are for processes above one that waits after them.
@@ -124,5 +124,5 @@ unfolding runOf
 speaker-bound x formed =
     let last : ℕ = suc (x .resilience) in
     let end = bounded x formed last (omega arith) in
-    let messages = total _ _ _ _ (omega (arith, speakers-le x last)) (end .estimates) (end .commits) in
-    record { speakers = end .speakers; messagesAtMost = as-stated _ _ _ messages; messages = messages }
+    let fit : runTo x last .speakers ≤ x .processes = omega (arith, speakers-le x last) in
+    record { speakers = end .speakers; speakersFit = fit; messages = halved _ _ _ (total _ _ _ _ fit (end .estimates) (end .commits)) }

@@ -65,13 +65,13 @@ endsOf x ends = mapFrom (λ p fault. ends p) 1 (x .pattern)
 unfoldable pub CountsCrashes : ℕ → Instance → (ℕ → State) → Type 0
 CountsCrashes f x ends = f ≡ crashCount (x .pattern) (endsOf x ends)
 
--- The failure lines of one process in two instances: the same (or none in both), or of the commit step with as many commits or more in the second, or of the commit step and missing there.
+-- Pairing by instance, a step on the way to the claim, which pairs texts (`PairedTexts`, demands/specs). The failure lines of one process in two instances: the same (or none in both), or of the commit step with as many commits or more in the second, or of the commit step and missing there.
 pub data LinePaired : Fault → Fault → Type 0 where
   same : {fault : Fault} → LinePaired fault fault
   moreCommits : {round sent sent′ : ℕ} → sent ≤ sent′ → LinePaired (crashes round (duringCommits sent)) (crashes round (duringCommits sent′))
   missing : {round sent : ℕ} → LinePaired (crashes round (duringCommits sent)) correct
 
--- Two instances that are equal but for that.
+-- Two instances that are equal but for that: a step on that way too.
 pub record Paired (x y : Instance) : Type 0 where
   pub processes : x .processes ≡ y .processes
   pub resilience : x .resilience ≡ y .resilience
