@@ -37,7 +37,7 @@ module _ (n r : ℕ) (fault : Fault) (p : ℕ) (own : Fault) (c : State) (i u v 
         estimate-of = cc (same h);
       }
   decides-case m s s′ heard (listens {m = nothing} _ _) same same′ d e = absurd (undecided-decided _ _ i v refl e)
-  decides-case m s s′ heard (listens {m = estimate w} _ _) same same′ d e = absurd (undecided-decided _ w i v refl e)
+  decides-case m s s′ heard (listens {m = estimate w} _ _) same same′ d e = absurd (undecided-decided _ _ i v refl e)
   decides-case m s s′ heard (listens {m = estimateAndCommit w} _ _) same same′ d e =
       let (above, reached, from) = hears-commit n r fault p heard in
       record { in-round = cc; at-or-above = omega arith; committed = reached; estimate-of = cc }
