@@ -1,36 +1,15 @@
--- What refusals 4, 7 and 8 let pass: a failure line that does states a fault that is allowed. Assumes nothing.
+-- What refusals 7 and 8 let pass: a failure line that does states a fault that is allowed, and one of the commit step a fault in its process's own round. Assumes nothing.
 use mathlib.Core.Path.{_≡_}
 use mathlib.Core.Bool.{Bool, true, false, cond, _&&_}
 use Prim.Native.Nat.{ℕ, suc, _-_, _≤_, _<_}
 use native.Mathlib.Omega.{arith}
 use lib.Dec.{eqb, leb}
-use borrow.Author.Tests.{ltb-true, leb-true, eqb-true, le-leb, lt-ltb}
+use borrow.Author.Tests.{ltb-true, leb-true, eqb-true}
 use Rattle.general.proofs.Tests.{both}
-use Rattle.protocol.specs.Instance.{beforeSending, duringData, duringCommits, pointFrom, withinLimits}
+use Rattle.protocol.specs.Instance.{crashes, beforeSending, duringData, duringCommits, pointFrom}
 use Rattle.protocol.specs.WellFormed.{PointAllowed, FaultAllowed}
 use Rattle.checks.specs.declared.FailureLine.{FailureLine}
 use Rattle.checks.specs.FailureLine.{placesCrash, allBetween, suitsStep, faultBy}
-
--- What refusal 4 lets pass.
-pub record Limits (n t : ℕ) : Type 0 where
-  pub some-process : 1 ≤ n
-  pub at-most-64 : n ≤ 64
-  pub fewer-crashes : t < n
-
-pub limits-hold : (n t : ℕ) → withinLimits n t ≡ true → Limits n t
-unfolding withinLimits
-limits-hold n t e =
-    let outer = both _ _ e in
-    let inner = both _ _ (outer .0) in
-    record {
-      some-process = leb-true _ _ (inner .0);
-      at-most-64 = leb-true _ _ (inner .1);
-      fewer-crashes = ltb-true _ _ (outer .1);
-    }
-
-pub limits-pass : (n t : ℕ) → Limits n t → withinLimits n t ≡ true
-unfolding withinLimits
-limits-pass n t h = rw (le-leb 1 n (h .some-process), le-leb n 64 (h .at-most-64), lt-ltb t n (h .fewer-crashes))
 
 -- Refusal 8 at each step, as the two tests of the step turn out.
 step-allowed : (n p round reached count : ℕ) (atZero atOne : Bool)
@@ -82,3 +61,12 @@ module _ (n t last : ℕ) (l : FailureLine) (placed : placesCrash n t last l ≡
     crash-placed .round-to-last,
     step-allowed n (l .process) (l .round) (l .reached) (l .count) (eqb (l .step) 0) (eqb (l .step) 1) e (crash-placed .process-to-n),
   )
+
+-- A line of the commit step crashes its process in its own round.
+pub commit-fault : (n t last : ℕ) (l : FailureLine) → placesCrash n t last l ≡ true → suitsStep n l ≡ true → l .step ≡ 2
+    → faultBy l ≡ crashes (l .process) (duringCommits (l .count))
+unfolding pointFrom FaultAllowed PointAllowed
+commit-fault n t last l placed suits e =
+    let allowed = crash-allowed n t last l placed suits in
+    let own : l .round ≡ l .process = (rw e at allowed) .2 .0 in
+    rw (e, own)

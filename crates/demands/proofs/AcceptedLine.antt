@@ -1,4 +1,4 @@
--- What an accepted line says of the tests on its way: the stage that it leads to, and the fault that a failure line of the commit step states. Assumes nothing.
+-- What an accepted failure line, or the end, does; and of a failure line of the commit step, where it stands and the fault that it states. Assumes nothing.
 use mathlib.Core.List.{List}
 use mathlib.Core.Path.{_≡_, refl, subst}
 use mathlib.Core.Bool.{Bool, true, false, cond, not}
@@ -8,34 +8,13 @@ use borrow.Author.Tests.{eqb-true}
 use lib.Dec.{eqb, leb}
 use lib.ListN.{length, getD}
 use Rattle.protocol.specs.Instance.{Instance, crashes, duringCommits}
-use Rattle.kinds.specs.Step.{Step, next, refuse}
-use Rattle.ticket.specs.Reading.{Reading, accepted, refused, proceed}
+use Rattle.kinds.specs.Step.{next, refuse}
+use Rattle.ticket.proofs.Passing.{refuse-next, passes-if, passes-unless}
 use Rattle.checks.specs.FailureLine.{placesCrash, suitsStep, faultBy}
+use Rattle.checks.proofs.CrashAllowed.{commit-fault}
 use Rattle.kinds.specs.Accept.{Stage, header, proposals, failures, ended, isKind, acceptHeader, acceptProposal, failureLine, withCrash, acceptCrash, acceptFailure, accept}
 use Rattle.general.proofs.Tests.{both}
 use Rattle.demands.specs.PairedTexts.{CommitLine}
-use Rattle.demands.proofs.PairedFaults.{commit-fault}
-
--- An accepted text, and an accepted line, pass each test.
-pub refuse-next : {S : Type 0} (refusal : ℕ) (s : S) → refuse refusal ≡ next s → ⊥
-refuse-next refusal s e = let z : _≡_ {A = ℕ} 0 1 = cc in omega arith
-
-pub refused-accepted : {A : Type 0} (refusal k : ℕ) (a : A) → refused refusal k ≡ accepted a → ⊥
-refused-accepted refusal k a e = let z : _≡_ {A = ℕ} 0 1 = cc in omega arith
-
-module _ {S : Type 0} where
-  pub passes-if : (test : Bool) (refusal : ℕ) (step : Step S) (s : S) → cond (not test) (refuse refusal) step ≡ next s → (test ≡ true) × (step ≡ next s)
-  passes-if true refusal step s e = (refl, e)
-  passes-if false refusal step s e = absurd (refuse-next refusal s e)
-
-  passes-unless : (test : Bool) (refusal : ℕ) (step : Step S) (s : S) → cond test (refuse refusal) step ≡ next s → step ≡ next s
-  passes-unless true refusal step s e = absurd (refuse-next refusal s e)
-  passes-unless false refusal step s e = e
-
-  pub proceeds : {A : Type 0} (step : Step S) (k : ℕ) (go : S → Reading A) (a : A) → proceed step k go ≡ accepted a → (s : S) × (step ≡ next s) × (go s ≡ accepted a)
-  unfolding proceed
-  proceeds (next s) k go a e = (s, refl, e)
-  proceeds (refuse refusal) k go a e = absurd (refused-accepted refusal k a e)
 
 -- What an accepted failure line, or the end, does.
 pub data Taken (x : Instance) (last : ℕ) (b : List ℕ) : Stage → Type 0 where

@@ -1,27 +1,16 @@
 -- The failure patterns of two paired texts, one failure line at a time: what a line does to one of them or to both. Assumes nothing.
 use mathlib.Core.Path.{_≡_, refl, _∙_}
-use mathlib.Core.Bool.{true}
 use Prim.Native.Nat.{ℕ, _-_, _≤_, _<_}
 use native.Mathlib.Omega.{arith}
 use lib.ListN.{length, length-set}
 use lib.Seq.{getD-set-same, getD-set-other}
 use Rattle.general.proofs.Tests.{by-equal}
-use Rattle.protocol.specs.Instance.{Instance, correct, crashes, duringCommits, pointFrom, faultOf}
-use Rattle.protocol.specs.WellFormed.{PointAllowed, FaultAllowed}
+use Rattle.protocol.specs.Instance.{Instance, correct, faultOf}
 use Rattle.protocol.specs.Consensus.{LinePaired, Paired}
 use Rattle.checks.specs.declared.FailureLine.{FailureLine}
-use Rattle.checks.specs.FailureLine.{placesCrash, suitsStep, faultBy}
+use Rattle.checks.specs.FailureLine.{faultBy}
 use Rattle.kinds.specs.Accept.{withCrash}
-use Rattle.checks.proofs.CrashAllowed.{Placed, crash-allowed}
-
--- A line of the commit step crashes its process in its own round.
-pub commit-fault : (n t last : ℕ) (l : FailureLine) → placesCrash n t last l ≡ true → suitsStep n l ≡ true → l .step ≡ 2
-    → faultBy l ≡ crashes (l .process) (duringCommits (l .count))
-unfolding pointFrom FaultAllowed PointAllowed
-commit-fault n t last l placed suits e =
-    let allowed = crash-allowed n t last l placed suits in
-    let own : l .round ≡ l .process = (rw e at allowed) .2 .0 in
-    rw (e, own)
+use Rattle.checks.proofs.CrashAllowed.{Placed}
 
 -- The fault of a line's process, and of any other, in the instance with that line.
 module _ (x : Instance) (l : FailureLine) (positive : 1 ≤ l .process) (inside : l .process ≤ length (x .pattern)) where

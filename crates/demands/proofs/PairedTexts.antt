@@ -15,8 +15,9 @@ use Rattle.ticket.specs.Reading.{Reading, accepted, refused, readFrom}
 use Rattle.kinds.specs.Accept.{Stage, header, proposals, failures, ended, isKind, acceptHeader, afterProposal, acceptProposal, failureLine, accept}
 use Rattle.ticket.specs.Ticket.{ticketLimit, atEnd, readTicket}
 use Rattle.checks.proofs.CrashAllowed.{crash-placed}
+use Rattle.ticket.proofs.Passing.{refused-accepted, refuse-next, passes-if, proceeds}
 use Rattle.demands.specs.PairedTexts.{CommitLine, PairedLines, noLines, sameLine, countNoLower, missingLine, PairedTexts}
-use Rattle.demands.proofs.AcceptedLine.{refused-accepted, refuse-next, passes-if, proceeds, Taken, takenEnd, takenCrash, taken, commit-at, not-the-end, stated-fault}
+use Rattle.demands.proofs.AcceptedLine.{Taken, takenEnd, takenCrash, taken, commit-at, not-the-end, stated-fault}
 use Rattle.demands.proofs.PairedFaults.{PairedSoFar, so-far-paired, so-far-both, so-far-first}
 
 -- The stages of both texts.

@@ -7,9 +7,10 @@ use native.Mathlib.Omega.{arith}
 use native.Mathlib.Numerals.{add-one}
 use lib.Dec.{eqb, leb, ltb}
 use lib.ListN.{length, getD}
-use borrow.Author.Tests.{ltb-true, leb-true, eqb-true, eqb-false, le-leb, lt-leb, lt-ltb, eq-eqb, ne-eqb}
+use borrow.Author.Tests.{leb-true, eqb-true, eqb-false, le-leb, lt-leb, lt-ltb, eq-eqb, ne-eqb}
 use Rattle.general.proofs.Tests.{both, refuted}
 use Rattle.protocol.specs.Instance.{withinLimits}
+use Rattle.protocol.proofs.Limits.{limits-hold, limits-pass}
 use Rattle.encoding.specs.PartState.{identityValid, roundValid, fieldsValid, stateValid, stateFrom, stateRefusal}
 
 -- Within the limits every number is a byte.
@@ -20,17 +21,16 @@ pub record Identity (p n t : ℕ) : Type 0 where
   pub resilience : t < n
 
 pub identity-says : (p n t : ℕ) → identityValid p n t ≡ true → Identity p n t
-unfolding identityValid withinLimits
+unfolding identityValid
 identity-says p n t e =
     let top = both (withinLimits n t && leb 1 p) (leb p n) e in
     let next = both (withinLimits n t) (leb 1 p) (top .0) in
-    let limits = both (leb 1 n && leb n 64) (ltb t n) (next .0) in
-    let size = both (leb 1 n) (leb n 64) (limits .0) in
+    let limits = limits-hold n t (next .0) in
     record {
       process = leb-true 1 p (next .1);
       within = leb-true p n (top .1);
-      processes = leb-true n 64 (size .1);
-      resilience = ltb-true t n (limits .1);
+      processes = limits .at-most-64;
+      resilience = limits .fewer-crashes;
     }
 
 module _ (p n t : ℕ) where
@@ -38,8 +38,8 @@ module _ (p n t : ℕ) where
   identity-fails h = refuted (identityValid p n t) (λ e. h (identity-says p n t e))
 
   pub identity-last : t < n → n ≤ 64 → 1 ≤ p → leb p n ≡ identityValid p n t
-  unfolding identityValid withinLimits
-  identity-last a b d = let one : 1 ≤ n = omega arith in simp le-leb
+  unfolding identityValid
+  identity-last a b d = rw (limits-pass n t (record { some-process = omega arith; at-most-64 = b; fewer-crashes = a }), le-leb 1 p d)
 
 -- A round that goes with its mark; the code has t + 1 for `suc t`.
 module _ (p t round mark : ℕ) where
@@ -119,10 +119,10 @@ fields-say p n t round mark e =
 
 -- Which fields pass.
 pub identity-holds : {p n t : ℕ} → Identity p n t → identityValid p n t ≡ true
-unfolding identityValid withinLimits
+unfolding identityValid
 identity-holds {p} {n} {t} i =
-    let one : 1 ≤ n = omega arith in
-    rw (le-leb 1 n one, le-leb n 64 (i .processes), lt-ltb t n (i .resilience), le-leb 1 p (i .process), le-leb p n (i .within))
+    let limits = limits-pass n t (record { some-process = omega arith; at-most-64 = i .processes; fewer-crashes = i .resilience }) in
+    rw (limits, le-leb 1 p (i .process), le-leb p n (i .within))
 
 -- Open or decided.
 pub within-valid : {p n t round mark : ℕ} → Identity p n t → mark < 2 → Within p t round → fieldsValid p n t round mark ≡ true

@@ -1,8 +1,8 @@
--- Laws of big-endian numbers: one byte more, the bytes of two and of four written out, how large a number so many bytes hold, and that a number comes back from its bytes. Assumes nothing.
+-- Laws of big-endian numbers: one byte more, the bytes of two and of four written out, the number of four bytes, how large a number so many bytes hold, and that a number comes back from its bytes. Assumes nothing.
 use mathlib.Core.List.{List, [], _∷_, _++_}
 use mathlib.Core.Path.{_≡_, refl, ap, _∙_}
 use Prim.Native.Nat.{ℕ, zero, suc, _+_, _*_, _/_, _%_, _^_, _<_}
-use native.Mathlib.Nat.{pow-suc, pow-zero, mul-one, mul-assoc, mul-comm}
+use native.Mathlib.Nat.{zero-add, pow-suc, pow-zero, mul-one, mul-assoc, mul-comm}
 use native.Mathlib.Omega.{arith}
 use lib.ListN.{length}
 use Rattle.general.specs.BigEndian.{number, numberFrom, bytesOf}
@@ -52,3 +52,8 @@ bytes-four v =
     let two : v / 256 / 256 ≡ v / 65536 = omega arith in
     let three : v / 256 / 256 / 256 ≡ v / 16777216 = omega arith in
     rw (three, two)
+
+-- The number of four bytes, by Horner's rule.
+pub number-four : (v w x y : ℕ) → ((v * 256 + w) * 256 + x) * 256 + y ≡ number (v ∷ w ∷ x ∷ y ∷ [])
+unfolding number numberFrom
+number-four v w x y = rw zero-add

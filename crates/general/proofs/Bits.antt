@@ -1,13 +1,14 @@
--- Sets of processes as bits: `ones64` is the library's count of ones, the size of a set of processes above p, of n, and the count of ones as the number of members. Assumes nothing.
+-- Sets of processes as bits: `ones64` is the library's count of ones, the size of a set of processes above p, of n, the count of ones as the number of members, and the mask of the processes 1 to p. Assumes nothing.
 use mathlib.Core.List.{List, _∷_}
 use mathlib.Core.Path.{_≡_, refl, sym, ap, ap₂, _∙_}
 use mathlib.Core.Bool.{Bool, true, false, cond}
 use Prim.Native.Nat.{ℕ, zero, suc, _+_, _-_, _*_, _/_, _%_, _^_, _≤_, _<_}
-use native.Mathlib.Nat.{div-add-mod', sub-add-cancel, lt-of-lt-of-le}
+use native.Mathlib.Nat.{div-add-mod', sub-add-cancel, lt-of-lt-of-le, pow-suc, mod-eq-of-lt, mod-lt}
 use native.Mathlib.Numerals.{add-one, one-add}
 use native.Mathlib.Omega.{arith}
-use borrow.Author.Tests.{eqb-true, eqb-false}
-use lib.Dec.{eqb}
+use borrow.Author.Tests.{ltb-true, ltb-false, eqb-true, eqb-false, eq-eqb, ne-eqb}
+use lib.Bits.{bitAnd, and-mask}
+use lib.Dec.{eqb, ltb}
 use lib.ListN.{length}
 use lib.Count.{onesIn, ones, ones-step, ones-cat, ones-le}
 use lib.Pow.{shr-lt, shr-shr, pow-pos, pow-mono}
@@ -73,3 +74,31 @@ ones-members (suc k) set =
 -- The language's count of a word's ones is the number of the set's members.
 pub word-members : (set : ℕ) → set < 2 ^ 64 → ones set ≡ length (membersTo 64 set)
 word-members set h = sym (ones-in 64 set h) ∙ ones-members 64 set
+
+-- The mask of the processes 1 to p.
+module _ (p : ℕ) (positive : 1 ≤ p) (small : p ≤ 64) where
+  highest-fits : 2 ^ (p - 1) ≤ 2 ^ 63
+  highest-fits = let less : p - 1 ≤ 63 = omega arith in pow-mono less
+
+  double : 2 ^ p ≡ 2 ^ (p - 1) * 2
+  double = let e : p ≡ suc (p - 1) = omega arith in ap (λ (k : ℕ). 2 ^ k) e ∙ pow-suc 2 (p - 1)
+
+  -- The highest bit of the mask is there after a shift by p - 1.
+  pub highest-positive : 1 ≤ 1 * 2 ^ (p - 1) % 2 ^ 64
+  highest-positive = omega (arith, highest-fits, pow-pos (p - 1))
+
+  -- The mask, made by a shift by p - 1 and one by 1.
+  pub first-mask : (1 * 2 ^ (p - 1) % 2 ^ 64 - 1) * 2 ^ 1 % 2 ^ 64 + 1 ≡ 2 ^ p - 1
+  first-mask = omega (arith, highest-fits, double, pow-pos (p - 1))
+
+-- A set is its own part below bit n just if it is below 2 ^ n.
+pub below-power : (set n : ℕ) (below : Bool) → ltb set (2 ^ n) ≡ below → eqb (set % 2 ^ n) set ≡ below
+below-power set n true e = eq-eqb (set % 2 ^ n) set (mod-eq-of-lt (ltb-true set (2 ^ n) e))
+below-power set n false e =
+    let least : 2 ^ n ≤ set = ltb-false _ _ e in
+    let less : set % 2 ^ n < 2 ^ n = mod-lt set (pow-pos n) in
+    ne-eqb (set % 2 ^ n) set (λ same. omega arith)
+
+-- What a mask of the first p bits leaves of a set.
+pub meets : (p set mask : ℕ) → mask ≡ 2 ^ p - 1 → bitAnd set mask ≡ set % 2 ^ p
+meets p set mask first-p = ap (bitAnd set) first-p ∙ and-mask set p

@@ -1,11 +1,13 @@
--- A list that is overwritten from the front: what has been written, followed by what stood there before. Assumes nothing.
+-- A list that is overwritten, from the front or from a place on: what has been written, followed by what stood there before. Assumes nothing.
 use mathlib.Core.List.{List, [], _∷_, _++_, append-nil, append-assoc}
 use mathlib.Core.Path.{_≡_, sym, ap, ap₂, _∙_}
 use Prim.Native.Nat.{ℕ, suc, _+_, _-_, _≤_, _<_}
 use native.Mathlib.Omega.{arith}
+use native.Mathlib.Nat.{zero-add}
+use native.Mathlib.Numerals.{add-one}
 use borrow.Rule.Slice.PartMut.{midOf, postOf, putMid}
 use lib.ListN.{length, set, take, drop, getD, length-append, drop-of-length-le}
-use lib.Seq.{drop-cons, set-at, append-snoc, take-at, drop-at, take-all, drop-drop}
+use lib.Seq.{drop-cons, set-at, sets, sets-eq, length-sets, append-snoc, take-at, drop-at, take-suc, take-all, length-take-le, drop-drop}
 
 -- One element more.
 pub set-seam : {A : Type 0} (written before : List A) (m : ℕ) (a : A) → length written ≡ m → m < length before
@@ -35,3 +37,34 @@ module _ {A : Type 0} (done line before : List A) (m w : ℕ) (at-m : length don
       ∙ ap₂ (λ (l r : List A). done ++ (line ++ l ++ r)) (drop-drop w m before) past
       ∙ ap (λ (l : List A). done ++ l) (append-nil (line ++ drop (m + w) before))
       ∙ sym (append-assoc done line (drop (m + w) before))
+
+-- A list that is put number by number to the front of another: one more.
+pub put-more : (numbers before : List ℕ) (k : ℕ) → k < length numbers → k < length before
+    → set (take k numbers ++ drop k before) k (getD numbers k 0) ≡ take (k + 1) numbers ++ drop (k + 1) before
+put-more numbers before k h fits =
+    set-seam (take k numbers) before k (getD numbers k 0) (length-take-le k numbers (omega arith)) fits
+    ∙ ap (λ (l : List ℕ). l ++ drop (suc k) before) (sym (take-suc numbers k 0 h))
+    ∙ ap (λ (m : ℕ). take m numbers ++ drop m before) (sym (add-one k))
+
+-- Stores from the front leave the stored elements, and what followed them.
+pub stored : (vs l : List ℕ) → length vs ≤ length l → sets l 0 vs ≡ vs ++ drop (length vs) l
+stored vs l h =
+    let fits : 0 + length vs ≤ length l = omega arith in
+    rw (sets-eq vs l 0 fits, zero-add)
+
+-- Where the stores from place i on reach the end, and those from the front reach place i, they alone are left.
+pub back-then-front : (front back l : List ℕ) (i : ℕ) → length front ≡ i → length l ≡ i + length back → sets (sets l i back) 0 front ≡ front ++ back
+back-then-front front back l i e h =
+    let fits : i + length back ≤ length l = omega arith in
+    let over : length l ≤ i + length back = omega arith in
+    let whole : sets l i back ≡ take i l ++ back = sets-eq back l i fits ∙ rw (drop-of-length-le l over, append-nil) in
+    let room : length front ≤ length (sets l i back) = omega (arith, length-sets l i back) in
+    stored front (sets l i back) room ∙ rw (whole, e, drop-at (take i l) back i (length-take-le i l (omega arith)))
+
+-- Four stores at the places that the code has.
+pub four-stored : (l : List ℕ) (at w x y z : ℕ) → set (set (set (set l at w) (at + 1) x) (at + 2) y) (at + 3) z ≡ sets l at (w ∷ x ∷ y ∷ z ∷ [])
+four-stored l at w x y z =
+    let e1 : at + 1 ≡ suc at = omega arith in
+    let e2 : at + 2 ≡ suc (suc at) = omega arith in
+    let e3 : at + 3 ≡ suc (suc (suc at)) = omega arith in
+    rw (e1, e2, e3)

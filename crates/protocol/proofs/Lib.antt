@@ -1,3 +1,4 @@
+pub mod Limits
 pub mod Pointwise
 pub mod Undecided
 pub mod Ended
@@ -8,6 +9,7 @@ pub mod Coordinator
 pub mod Values
 pub mod Locking
 pub mod Faults
+pub mod FaultsStated
 pub mod Ends
 pub mod CrashCount
 pub mod Counts

@@ -19,7 +19,8 @@ use Rattle.transitions.specs.declared.FaultEntry.{FaultEntry}
 use Rattle.transitions.specs.Entries.{entryState, entryFault}
 use Rattle.rounds.specs.RoundAllowed.{RoundAllowed}
 use Rattle.rounds.proofs.Underway.{Sized, Underway, all-through}
-use Rattle.rounds.proofs.Reading.{entryOf, faultEntryOf, processes-of, fault-read, state-read}
+use Rattle.tables.proofs.Places.{processes-of}
+use Rattle.rounds.proofs.Reading.{entryOf, faultEntryOf, fault-read, state-read}
 
 -- A coordinator in the state c is one speaker at most.
 pub at-most-one : (c : Entry) (k : ℕ) → k ≡ cond (isUndecided (entryState c)) 1 0 → k ≤ 1

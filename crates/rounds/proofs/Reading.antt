@@ -1,5 +1,5 @@
 -- The entries of one process in the tables; what the code reads of the tables is what the definitions say of their instance and run. Assumes nothing.
-use mathlib.Core.Path.{_≡_, refl, sym, ap, _∙_}
+use mathlib.Core.Path.{_≡_, sym, ap, _∙_}
 use Prim.Native.Nat.{ℕ, _-_, _≤_, _<_}
 use native.Mathlib.Omega.{arith}
 use lib.ListN.{length, getD}
@@ -27,14 +27,6 @@ faultEntryOf x p =
       reached = getD (x .sets) (p - 1) 0;
       count = getD (x .counts) (p - 1) 0;
     }
-
-pub processes-of : (x : InstanceTable) → instanceOf x .processes ≡ x .n
-unfolding instanceOf
-processes-of x = refl
-
-pub resilience-of : (x : InstanceTable) → instanceOf x .resilience ≡ x .t
-unfolding instanceOf
-resilience-of x = refl
 
 -- The limits of a well-formed instance, by the table.
 pub limits : (x : InstanceTable) → WellFormed (instanceOf x) → (1 ≤ x .n) × (x .n ≤ 64) × (x .t < x .n)

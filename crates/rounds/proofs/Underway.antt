@@ -13,11 +13,11 @@ use Rattle.tables.specs.declared.InstanceTable.{InstanceTable}
 use Rattle.tables.specs.declared.RunTable.{RunTable}
 use Rattle.tables.specs.InstanceReading.{faultFrom, instanceOf}
 use Rattle.tables.specs.RunReading.{statesIn}
-use Rattle.tables.proofs.Places.{fault-at, state-in, length-statesIn}
+use Rattle.tables.proofs.Places.{processes-of, fault-at, state-in, length-statesIn}
 use Rattle.transitions.specs.declared.Entry.{Entry}
 use Rattle.transitions.specs.declared.FaultEntry.{FaultEntry}
 use Rattle.transitions.specs.Entries.{entryState, entryFault}
-use Rattle.rounds.proofs.Reading.{entryOf, faultEntryOf, processes-of}
+use Rattle.rounds.proofs.Reading.{entryOf, faultEntryOf}
 
 -- The arrays of a run table have 64 places.
 pub record Sized (run : RunTable) : Type 0 where

@@ -17,9 +17,9 @@ use Rattle.tables.specs.declared.InstanceTable.{InstanceTable}
 use Rattle.tables.specs.declared.RunTable.{RunTable}
 use Rattle.tables.specs.InstanceReading.{instanceOf}
 use Rattle.tables.specs.RunReading.{stateByEnd, statesIn, runFrom}
-use Rattle.tables.proofs.Places.{state-in, length-statesIn}
+use Rattle.tables.proofs.Places.{processes-of, resilience-of, state-in, length-statesIn}
 use Rattle.rounds.specs.RoundAllowed.{RoundAllowed}
-use Rattle.rounds.proofs.Reading.{processes-of, resilience-of, limits}
+use Rattle.rounds.proofs.Reading.{limits}
 
 -- The run as round r begins, one of rounds 1 to t + 1 or the one after them.
 pub record AtRound (x : InstanceTable) (run : RunTable) (r : ℕ) : Type 0 where

@@ -2,13 +2,11 @@
 -- variables. Assumes nothing.
 use mathlib.Core.List.{List, _++_}
 use mathlib.Core.Path.{_≡_, refl, sym, ap, _∙_}
-use Prim.Native.Nat.{ℕ, suc, _+_, _<_}
+use Prim.Native.Nat.{ℕ}
 use native.Mathlib.Omega.{arith}
-use native.Mathlib.Numerals.{add-one}
-use lib.ListN.{length, set, take, drop, getD}
-use lib.Seq.{length-take-le, take-suc, take-all, take-at}
+use lib.ListN.{length, take, drop}
+use lib.Seq.{take-all, take-at}
 use Rattle.general.specs.BigEndian.{bytesOf}
-use Rattle.general.proofs.Overwrite.{set-seam}
 use Rattle.ticket.specs.Reading.{Reading, accepted, refused}
 use Rattle.result.specs.HexText.{hexDigits, hexLine}
 use Rattle.result.specs.ResultLine.{resultSize, refusalLine}
@@ -22,17 +20,9 @@ length-refusal : (number line : ℕ) → length (refusalLine number line) ≡ 9
 unfolding refusalLine hexLine hexDigits bytesOf
 length-refusal number line = refl
 
--- A list that is put byte by byte to the front of another: one byte more, and all nine of a refusal.
-module _ (bytes before : List ℕ) where
-  pub put-more : (k : ℕ) → k < length bytes → k < length before
-      → set (take k bytes ++ drop k before) k (getD bytes k 0) ≡ take (k + 1) bytes ++ drop (k + 1) before
-  put-more k h fits =
-      set-seam (take k bytes) before k (getD bytes k 0) (length-take-le k bytes (omega arith)) fits
-      ∙ ap (λ (l : List ℕ). l ++ drop (suc k) before) (sym (take-suc bytes k 0 h))
-      ∙ ap (λ (m : ℕ). take m bytes ++ drop m before) (sym (add-one k))
-
-  pub put-all : (number line : ℕ) → bytes ≡ refusalLine number line → take 9 bytes ++ drop 9 before ≡ refusalLine number line ++ drop 9 before
-  put-all number line e = rw e (ap (λ (l : List ℕ). l ++ drop 9 before) (take-all 9 (refusalLine number line) (omega (arith, length-refusal number line))))
+-- All nine bytes of a refusal, put to the front.
+pub put-all : (bytes before : List ℕ) (number line : ℕ) → bytes ≡ refusalLine number line → take 9 bytes ++ drop 9 before ≡ refusalLine number line ++ drop 9 before
+put-all bytes before number line e = rw e (ap (λ (l : List ℕ). l ++ drop 9 before) (take-all 9 (refusalLine number line) (omega (arith, length-refusal number line))))
 
 module _ (text before after : List ℕ) (answer : RunAnswer) (room : length before ≡ resultSize 64) (ran : Ran text before after answer) where
   -- What the program writes, by what running answers in its buffer.

@@ -1,6 +1,6 @@
 -- What a table says of one process, and of how many. Assumes nothing.
 use mathlib.Core.List.{List}
-use mathlib.Core.Path.{_≡_, ap, _∙_}
+use mathlib.Core.Path.{_≡_, refl, ap, _∙_}
 use Prim.Native.Nat.{ℕ, _+_, _-_, _≤_, _<_}
 use native.Mathlib.Omega.{arith}
 use lib.ListN.{length, getD, take, length-take}
@@ -13,6 +13,15 @@ use Rattle.tables.specs.declared.InstanceTable.{InstanceTable}
 use Rattle.tables.specs.declared.RunTable.{RunTable}
 use Rattle.tables.specs.InstanceReading.{faultFrom, faultIn, instanceOf}
 use Rattle.tables.specs.RunReading.{stateByEnd, stateIn, statesIn}
+
+-- How many processes a table has, and how many may crash.
+pub processes-of : (x : InstanceTable) → instanceOf x .processes ≡ x .n
+unfolding instanceOf
+processes-of x = refl
+
+pub resilience-of : (x : InstanceTable) → instanceOf x .resilience ≡ x .t
+unfolding instanceOf
+resilience-of x = refl
 
 -- A reading of the first n places of a list, taken with their numbers, at process p.
 module _ {B : Type 0} (f : ℕ → ℕ → B) (n : ℕ) (l : List ℕ) (fits : n ≤ length l) where

@@ -21,7 +21,7 @@ use Rattle.kinds.specs.Progress.{headerStep}
 use Rattle.kinds.specs.declared.HeaderAnswer.{HeaderAnswer}
 use Rattle.kinds.specs.declared.HeaderAnswer.the-variants.{Limits, Refused}
 use Rattle.ticket.proofs.Keeping.{Keeps}
-use Rattle.checks.proofs.CrashAllowed.{limits-pass}
+use Rattle.protocol.proofs.Limits.{limits-pass}
 use Rattle.ticket.proofs.WellFormed.{StageAllowed, header-keeps}
 
 pub too-long : (text : List ℕ) → ticketLimit < length text → readTicket text ≡ refused 1 0

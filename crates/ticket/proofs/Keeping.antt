@@ -7,7 +7,7 @@ use Rattle.general.proofs.Bytes.{Bytes}
 use Rattle.lines.specs.Line.{Line, bytes, noLine}
 use Rattle.kinds.specs.Step.{Step, next, refuse}
 use Rattle.ticket.specs.Reading.{Reading, accepted, refused, proceed, readFrom}
-use Rattle.ticket.proofs.LineBytes.{Lines}
+use Rattle.lines.proofs.LineBytes.{Lines}
 
 -- The next stage, if there is one, has the property.
 unfoldable pub Keeps : {S : Type 0} → (S → Type 0) → Step S → Type 0

@@ -1,6 +1,5 @@
-pub mod LineBytes
 pub mod Keeping
-pub mod FaultsStated
+pub mod Passing
 pub mod WellFormed
 pub mod CrashTable
 pub mod HeaderAnswers

@@ -20,10 +20,11 @@ use Rattle.checks.specs.declared.FailureLine.{FailureLine}
 use Rattle.checks.specs.FailureLine.{placesCrash, suitsStep, faultBy}
 use Rattle.kinds.specs.Accept.{Stage, header, proposals, failures, ended, isKind, acceptHeader, afterProposal, acceptProposal, failureLine, withCrash, acceptCrash, acceptFailure, accept}
 use Rattle.ticket.specs.Ticket.{ticketLimit, atEnd, readTicket}
-use Rattle.ticket.proofs.LineBytes.{lines-bytes}
+use Rattle.lines.proofs.LineBytes.{lines-bytes}
 use Rattle.ticket.proofs.Keeping.{Keeps, Gives, keeps-if, keeps-unless, keeps-either, reading-gives}
-use Rattle.checks.proofs.CrashAllowed.{Limits, limits-hold, crash-placed, crash-allowed}
-use Rattle.ticket.proofs.FaultsStated.{count-set, faults-none, allowed-set}
+use Rattle.checks.proofs.CrashAllowed.{crash-placed, crash-allowed}
+use Rattle.protocol.proofs.Limits.{Limits, limits-hold}
+use Rattle.protocol.proofs.FaultsStated.{count-set, faults-none, allowed-set}
 
 -- All values fit four bytes.
 abbrev ValuesFit : List ℕ → Type 0

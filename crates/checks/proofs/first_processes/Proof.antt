@@ -1,7 +1,7 @@
 -- `first_processes` meets its contract. Assumes nothing.
 use native.Mathlib.Omega.{arith}
 use borrow.Author.Needs.{needs}
-use Rattle.checks.proofs.Sets.{highest-positive, first-mask}
+use Rattle.general.proofs.Bits.{highest-positive, first-mask}
 use Rattle.checks.proofs.first_processes.Statement.{statement}
 use Rattle.checks.proofs.first_processes.Tie as tie
 

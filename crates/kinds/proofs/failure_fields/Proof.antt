@@ -1,7 +1,7 @@
 -- `failure_fields` meets its contract. Assumes nothing.
 use native.Mathlib.Omega.{arith}
 use Rattle.lines.proofs.Bytes.{holds-part}
-use Rattle.kinds.proofs.LineAnswers.{failure-fields}
+use Rattle.kinds.proofs.FailureLine.{failure-fields}
 use Rattle.kinds.proofs.failure_fields.Statement.{statement}
 use Rattle.kinds.proofs.failure_fields.Tie as tie
 

@@ -3,7 +3,7 @@ use mathlib.Core.Path.{_∙_, sym}
 use native.Mathlib.Omega.{arith}
 use borrow.Author.Needs.{needs}
 use Rattle.lines.proofs.Bytes.{holds-front, holds-part}
-use Rattle.kinds.proofs.LineAnswers.{failure-size, failure-short, failure-end, failure-kind, failure-crash}
+use Rattle.kinds.proofs.FailureLine.{failure-size, failure-short, failure-end, failure-kind, failure-crash}
 use Rattle.kinds.proofs.failure_line.Statement.{statement}
 use Rattle.kinds.proofs.failure_line.Tie as tie
 

@@ -3,7 +3,7 @@ use mathlib.Core.Path.{sym}
 use native.Mathlib.Omega.{arith}
 use borrow.Author.Needs.{needs}
 use Rattle.lines.proofs.Bytes.{holds-part}
-use Rattle.kinds.proofs.LineAnswers.{header-size, header-kind, header-limits, header-next}
+use Rattle.kinds.proofs.HeaderLine.{header-size, header-kind, header-limits, header-next}
 use Rattle.kinds.proofs.header_line.Statement.{statement}
 use Rattle.kinds.proofs.header_line.Tie as tie
 

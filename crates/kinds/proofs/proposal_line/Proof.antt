@@ -4,7 +4,7 @@ use native.Mathlib.Omega.{arith}
 use borrow.Author.Needs.{needs}
 use Rattle.lines.proofs.Bytes.{holds-part}
 use Rattle.lines.proofs.Word.{number-small}
-use Rattle.kinds.proofs.LineAnswers.{proposal-size, proposal-kind, proposal-order, proposal-next}
+use Rattle.kinds.proofs.ProposalLine.{proposal-size, proposal-kind, proposal-order, proposal-next}
 use Rattle.kinds.proofs.TableStages.{proposed}
 use Rattle.kinds.proofs.proposal_line.Statement.{statement}
 use Rattle.kinds.proofs.proposal_line.Tie as tie

@@ -1,6 +1,7 @@
 -- `simulate::put_refusal` meets its contract. Invariant: the bytes put so far, followed by what stood there before. Assumes nothing.
 use Prim.Native.Nat.{_-_, _≤_}
-use Rattle.simulate.proofs.Answered.{put-more, put-all}
+use Rattle.general.proofs.Overwrite.{put-more}
+use Rattle.simulate.proofs.Answered.{put-all}
 use Rattle.simulate.proofs.put_refusal.Statement.{statement}
 use Rattle.simulate.proofs.put_refusal.Tie as tie
 use borrow.Author.Needs.{needs}

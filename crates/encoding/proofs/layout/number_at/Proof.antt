@@ -2,7 +2,7 @@
 use borrow.Author.Needs.{needs}
 use mathlib.Core.Path.{ap, sym, _∙_}
 use Rattle.general.specs.BigEndian.{number}
-use Rattle.encoding.proofs.Bytes.{four-bytes}
+use Rattle.general.proofs.Lists.{four-bytes}
 use Rattle.encoding.proofs.layout.number_at.Statement.{statement}
 use Rattle.encoding.proofs.layout.number_at.Tie as tie
 

@@ -1,6 +1,6 @@
 -- `encoding::layout::number_of` meets its contract: Horner's rule. Assumes nothing.
 use borrow.Author.Needs.{needs}
-use Rattle.encoding.proofs.Bytes.{number-four}
+use Rattle.general.proofs.BigEndian.{number-four}
 use Rattle.encoding.proofs.layout.number_of.Statement.{statement}
 use Rattle.encoding.proofs.layout.number_of.Tie as tie
 

@@ -3,7 +3,7 @@ use borrow.Author.Needs.{needs}
 use Prim.Native.Nat.{_/_, _%_}
 use lib.ListN.{length-set}
 use Rattle.general.specs.BigEndian.{bytesOf}
-use Rattle.encoding.proofs.Bytes.{four-stored}
+use Rattle.general.proofs.Overwrite.{four-stored}
 use Rattle.encoding.proofs.layout.write_number.Statement.{statement}
 use Rattle.encoding.proofs.layout.write_number.Tie as tie
 

@@ -1,4 +1,4 @@
--- One failure line more states at most one fault more, and leaves the other processes' faults. Assumes nothing.
+-- The faults that a failure pattern states: none where every process is correct, and at most one more where one process's fault is set, which leaves the others'. Assumes nothing.
 use mathlib.Core.List.{List, [], _∷_}
 use mathlib.Core.Path.{_≡_, refl}
 use Prim.Native.Nat.{ℕ, zero, suc, _-_, _≤_}
