@@ -1,6 +1,6 @@
 //! Between a coordinator and the mailboxes: the line on which a crash cuts
 //! messages off, and the switch that counts and delivers the others
-//! (01, "A round", fourth paragraph).
+//! (01, "A round", third paragraph).
 
 use crate::process::{Message, Process};
 use crate::ticket::Crash;
