@@ -3,9 +3,9 @@ use mathlib.Core.List.{List}
 use mathlib.Core.Path.{_≡_, refl}
 use Prim.Native.Nat.{ℕ}
 use native.Mathlib.Omega.{arith}
-use Rattle.ticket.specs.Reading.{Reading, accepted, refused}
-use Rattle.ticket.specs.Ticket.{readTicket}
-use Rattle.running.specs.Settle.{Settles}
+use Rattle.formats.specs.Reading.{Reading, accepted, refused}
+use Rattle.formats.specs.Ticket.{readTicket}
+use Rattle.formats.specs.Settle.{Settles}
 use Rattle.running.specs.Answer.{answerOf, settlingOf}
 use Rattle.running.specs.declared.RunAnswer.{RunAnswer}
 use Rattle.running.specs.declared.RunAnswer.the-variants.{Written, Refused}

@@ -12,15 +12,15 @@ use Rattle.protocol.specs.Run.{runOf, crashesOf}
 use Rattle.protocol.specs.Settling.{qualifies}
 use Rattle.protocol.proofs.Counts.{counts-fit}
 use Rattle.protocol.proofs.Ends.{states-at-end}
-use Rattle.ticket.specs.Reading.{Reading, accepted, refused}
-use Rattle.ticket.specs.Ticket.{readTicket}
+use Rattle.formats.specs.Reading.{Reading, accepted, refused}
+use Rattle.formats.specs.Ticket.{readTicket}
 use Rattle.general.proofs.Tests.{both}
-use Rattle.ticket.proofs.WellFormed.{accepted-well-formed}
-use Rattle.ticket.proofs.RefusalRange.{RefusedBy, lastRefused, ticket-refused}
-use Rattle.result.specs.ResultLine.{resultText, resultSize}
+use Rattle.formats.proofs.WellFormed.{accepted-well-formed}
+use Rattle.formats.proofs.RefusalRange.{RefusedBy, lastRefused, ticket-refused}
+use Rattle.formats.specs.ResultLine.{resultText, resultSize}
 use Rattle.result.proofs.ResultLine.{length-result}
-use Rattle.running.specs.Running.{resultIn, running}
-use Rattle.running.specs.Settle.{Settles}
+use Rattle.formats.specs.Running.{resultIn, running}
+use Rattle.formats.specs.Settle.{Settles}
 use Rattle.agreement.specs.Code.{refusalsFrom, refusalCode, runCode, settleCode, SettlesAs}
 use Rattle.agreement.specs.CodesApart.{TellsRefusal, TellsSize, TellsRound, TellsRun, TellsSettling, CodesApart}
 

@@ -5,10 +5,10 @@ use mathlib.Core.Bool.{true}
 use Prim.Native.Nat.{ℕ, _/_, _%_, _≤_, _<_}
 use Rattle.protocol.specs.Instance.{Instance}
 use Rattle.protocol.specs.Settling.{qualifies}
-use Rattle.ticket.specs.Reading.{Reading, accepted, refused}
-use Rattle.ticket.specs.Ticket.{readTicket}
-use Rattle.result.specs.ResultLine.{resultText, resultSize}
-use Rattle.running.specs.Running.{running}
+use Rattle.formats.specs.Reading.{Reading, accepted, refused}
+use Rattle.formats.specs.Ticket.{readTicket}
+use Rattle.formats.specs.ResultLine.{resultText, resultSize}
+use Rattle.formats.specs.Running.{running}
 use Rattle.agreement.specs.Code.{refusalsFrom, runCode, SettlesAs}
 
 -- The code of a refusal: its number, from 1 to `most`, and its line are read off by division.

@@ -1,7 +1,7 @@
 // The module's C interface (include/agreement.h): every call total on every input, its answer a documented number.
 ghost use mathlib.Core.Path.{_≡_};
 ghost use lib.ListN.{length};
-ghost use Rattle.running.specs.Running.{running, bufferAfter};
+ghost use Rattle.formats.specs.Running.{running, bufferAfter};
 ghost use Rattle.process.specs.Start.{startRefusal, startBytes};
 ghost use Rattle.process.specs.Speak.{speakAnswer, speakOutput};
 ghost use Rattle.process.specs.Close.{closeRefusal, closeState};

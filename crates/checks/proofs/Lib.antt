@@ -1,3 +1,2 @@
 pub mod Sets
 pub mod CheckAnswers
-pub mod CrashAllowed

@@ -1,17 +1,9 @@
 // The checks of a ticket's lines behind refusals 4, 7 and 8 (document 01, 'Refused calls'), each equal to its definition.
+use formats::FailureLine;
 ghost use mathlib.Core.Path.{_≡_};
 ghost use Prim.Native.Nat.{_-_, _^_, _≤_};
 ghost use Rattle.protocol.specs.Instance.{withinLimits};
-ghost use Rattle.checks.specs.FailureLine.{placesCrash, allBetween, suitsStep};
-
-// The bytes of a failure line behind its kind: station, round, step, set, in which bit j - 1 stands for process j, and count.
-pub struct FailureLine {
-    pub process: u8,
-    pub round: u8,
-    pub step: u8,
-    pub reached: u64,
-    pub count: u8,
-}
+ghost use Rattle.formats.specs.FailureLine.{placesCrash, allBetween, suitsStep};
 
 // True where refusal 4 does not apply: 1 ≤ n ≤ 64 and t < n.
 pub fn within_limits(n: u8, t: u8) -> bool

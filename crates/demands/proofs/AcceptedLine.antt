@@ -8,11 +8,11 @@ use borrow.Author.Tests.{eqb-true}
 use lib.Dec.{eqb, leb}
 use lib.ListN.{length, getD}
 use Rattle.protocol.specs.Instance.{Instance, crashes, duringCommits}
-use Rattle.kinds.specs.Step.{next, refuse}
-use Rattle.ticket.proofs.Passing.{refuse-next, passes-if, passes-unless}
-use Rattle.checks.specs.FailureLine.{placesCrash, suitsStep, faultBy}
-use Rattle.checks.proofs.CrashAllowed.{commit-fault}
-use Rattle.kinds.specs.Accept.{Stage, header, proposals, failures, ended, isKind, acceptHeader, acceptProposal, failureLine, withCrash, acceptCrash, acceptFailure, accept}
+use Rattle.formats.specs.Step.{next, refuse}
+use Rattle.formats.proofs.Passing.{refuse-next, passes-if, passes-unless}
+use Rattle.formats.specs.FailureLine.{placesCrash, suitsStep, faultBy}
+use Rattle.formats.proofs.CrashAllowed.{commit-fault}
+use Rattle.formats.specs.Accept.{Stage, header, proposals, failures, ended, isKind, acceptHeader, acceptProposal, failureLine, withCrash, acceptCrash, acceptFailure, accept}
 use Rattle.general.proofs.Tests.{both}
 use Rattle.demands.specs.PairedTexts.{CommitLine}
 

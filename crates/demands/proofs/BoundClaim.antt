@@ -1,6 +1,6 @@
 -- The bound by speakers of every accepted text. Assumes nothing.
 use Rattle.protocol.proofs.Bound.{speaker-bound}
-use Rattle.ticket.proofs.WellFormed.{accepted-well-formed}
+use Rattle.formats.proofs.WellFormed.{accepted-well-formed}
 use Rattle.demands.specs.BoundClaim.{BoundClaim}
 
 pub bound-claim : BoundClaim

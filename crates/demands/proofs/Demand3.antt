@@ -7,7 +7,7 @@ use Rattle.protocol.proofs.CrashCount.{crashes-are-crashed}
 use Rattle.protocol.proofs.Consensus.{uniform-consensus}
 use Rattle.protocol.proofs.Pair.{no-later}
 use Rattle.protocol.proofs.SameEnds.{SameEnds, consensus-same, no-later-same, ends-in-order}
-use Rattle.ticket.proofs.WellFormed.{accepted-well-formed}
+use Rattle.formats.proofs.WellFormed.{accepted-well-formed}
 use Rattle.demands.specs.Said.{endSaid}
 use Rattle.demands.specs.Demand3.{RoundsClaim, OutputClaim, Demand3}
 use Rattle.demands.proofs.PairedTexts.{texts-paired}

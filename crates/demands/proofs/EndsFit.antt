@@ -14,7 +14,7 @@ use Rattle.protocol.proofs.Ends.{states-at-end}
 use Rattle.protocol.proofs.Consensus.{uniform-consensus}
 use Rattle.protocol.proofs.Settled.{none-ends-undecided}
 use Rattle.protocol.proofs.SameEnds.{SameEnds}
-use Rattle.result.specs.ResultLine.{resultText}
+use Rattle.formats.specs.ResultLine.{resultText}
 use Rattle.demands.specs.Said.{endSaid, crashesSaid}
 use Rattle.demands.proofs.ResultReadBack.{Fits, RunFits, end-said, crashes-said}
 

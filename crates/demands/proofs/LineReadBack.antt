@@ -7,11 +7,11 @@ use native.Mathlib.Omega.{arith}
 use lib.Seq.{append-snoc}
 use Rattle.general.proofs.Tests.{by-order}
 use Rattle.general.proofs.Bytes.{Bytes}
-use Rattle.lines.specs.Digit.{digitValue, isDigit}
-use Rattle.lines.specs.Line.{bytes, even, odd, scan, closed, linesFrom, linesOf}
+use Rattle.formats.specs.Digit.{digitValue, isDigit}
+use Rattle.formats.specs.Line.{bytes, even, odd, scan, closed, linesFrom, linesOf}
 use Rattle.lines.proofs.Digit.{value-figure, value-letter, value-digit}
 use Rattle.lines.proofs.FirstLine.{lines-digit, lines-closed}
-use Rattle.result.specs.HexText.{digitOf, hexDigits, hexLine}
+use Rattle.formats.specs.HexText.{digitOf, hexDigits, hexLine}
 use Rattle.result.proofs.HexText.{digit-decimal, digit-letter}
 
 -- The value of the digit of a value.

@@ -10,11 +10,11 @@ use Rattle.protocol.specs.Instance.{Instance}
 use Rattle.protocol.specs.Run.{crashesOf}
 use Rattle.protocol.specs.Consensus.{endOf}
 use Rattle.protocol.proofs.SameEnds.{SameEnds}
-use Rattle.ticket.specs.Reading.{Reading, accepted, refused}
-use Rattle.ticket.specs.Ticket.{readTicket}
-use Rattle.ticket.proofs.WellFormed.{accepted-well-formed}
-use Rattle.result.specs.ResultLine.{resultText, resultSize}
-use Rattle.running.specs.Running.{resultIn, running, bufferAfter}
+use Rattle.formats.specs.Reading.{Reading, accepted, refused}
+use Rattle.formats.specs.Ticket.{readTicket}
+use Rattle.formats.proofs.WellFormed.{accepted-well-formed}
+use Rattle.formats.specs.ResultLine.{resultText, resultSize}
+use Rattle.formats.specs.Running.{resultIn, running, bufferAfter}
 use Rattle.running.specs.Answer.{answerOf, Ran}
 use Rattle.running.specs.declared.RunAnswer.the-variants.{Written, Refused}
 use Rattle.demands.specs.Said.{endSaid, crashesSaid}

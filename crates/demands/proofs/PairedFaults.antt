@@ -7,10 +7,10 @@ use lib.Seq.{getD-set-same, getD-set-other}
 use Rattle.general.proofs.Tests.{by-equal}
 use Rattle.protocol.specs.Instance.{Instance, correct, faultOf}
 use Rattle.protocol.specs.Consensus.{LinePaired, Paired}
-use Rattle.checks.specs.declared.FailureLine.{FailureLine}
-use Rattle.checks.specs.FailureLine.{faultBy}
-use Rattle.kinds.specs.Accept.{withCrash}
-use Rattle.checks.proofs.CrashAllowed.{Placed}
+use Rattle.formats.specs.declared.FailureLine.{FailureLine}
+use Rattle.formats.specs.FailureLine.{faultBy}
+use Rattle.formats.specs.Accept.{withCrash}
+use Rattle.formats.proofs.CrashAllowed.{Placed}
 
 -- The fault of a line's process, and of any other, in the instance with that line.
 module _ (x : Instance) (l : FailureLine) (positive : 1 ≤ l .process) (inside : l .process ≤ length (x .pattern)) where

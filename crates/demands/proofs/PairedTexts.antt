@@ -9,13 +9,13 @@ use Rattle.general.specs.BigEndian.{number}
 use Rattle.general.proofs.Lists.{getD-repeated}
 use Rattle.protocol.specs.Instance.{Instance, correct, faultOf, withinLimits}
 use Rattle.protocol.specs.Consensus.{same, moreCommits, missing, Paired}
-use Rattle.lines.specs.Line.{Line, bytes, noLine}
-use Rattle.kinds.specs.Step.{next}
-use Rattle.ticket.specs.Reading.{Reading, accepted, refused, readFrom}
-use Rattle.kinds.specs.Accept.{Stage, header, proposals, failures, ended, isKind, acceptHeader, afterProposal, acceptProposal, failureLine, accept}
-use Rattle.ticket.specs.Ticket.{ticketLimit, atEnd, readTicket}
-use Rattle.checks.proofs.CrashAllowed.{crash-placed}
-use Rattle.ticket.proofs.Passing.{refused-accepted, refuse-next, passes-if, proceeds}
+use Rattle.formats.specs.Line.{Line, bytes, noLine}
+use Rattle.formats.specs.Step.{next}
+use Rattle.formats.specs.Reading.{Reading, accepted, refused, readFrom}
+use Rattle.formats.specs.Accept.{Stage, header, proposals, failures, ended, isKind, acceptHeader, afterProposal, acceptProposal, failureLine, accept}
+use Rattle.formats.specs.Ticket.{ticketLimit, atEnd, readTicket}
+use Rattle.formats.proofs.CrashAllowed.{crash-placed}
+use Rattle.formats.proofs.Passing.{refused-accepted, refuse-next, passes-if, proceeds}
 use Rattle.demands.specs.PairedTexts.{CommitLine, PairedLines, noLines, sameLine, countNoLower, missingLine, PairedTexts}
 use Rattle.demands.proofs.AcceptedLine.{Taken, takenEnd, takenCrash, taken, commit-at, not-the-end, stated-fault}
 use Rattle.demands.proofs.PairedFaults.{PairedSoFar, so-far-paired, so-far-both, so-far-first}

@@ -13,9 +13,9 @@ use Rattle.general.proofs.BigEndian.{bytes-of-number, number-bytes}
 use Rattle.general.proofs.Indexed.{length-mapFrom, mapFrom-at}
 use Rattle.protocol.specs.Round.{State, undecided, decided, crashed, stateOf}
 use Rattle.protocol.specs.Run.{Run}
-use Rattle.lines.specs.Line.{Line, bytes, noLine, linesOf}
-use Rattle.kinds.specs.Accept.{isKind}
-use Rattle.result.specs.ResultLine.{endBytes, processLine, lastLine, joined, resultLines}
+use Rattle.formats.specs.Line.{Line, bytes, noLine, linesOf}
+use Rattle.formats.specs.Accept.{isKind}
+use Rattle.formats.specs.ResultLine.{endBytes, processLine, lastLine, joined, resultLines}
 use Rattle.demands.specs.Said.{isProcessLine, endIn, endFrom, crashesFrom, lineAt, endSaid, crashesSaid}
 use Rattle.demands.proofs.LineReadBack.{line-read-back}
 

@@ -4,8 +4,8 @@ use mathlib.Core.Path.{_≡_}
 use Prim.Native.Nat.{ℕ}
 use Rattle.protocol.specs.Instance.{Instance}
 use Rattle.protocol.specs.SpeakerBound.{SpeakerBound}
-use Rattle.ticket.specs.Reading.{accepted}
-use Rattle.ticket.specs.Ticket.{readTicket}
+use Rattle.formats.specs.Reading.{accepted}
+use Rattle.formats.specs.Ticket.{readTicket}
 
 unfoldable pub BoundClaim : Type 0
 BoundClaim = (text : List ℕ) (x : Instance) → readTicket text ≡ accepted x → SpeakerBound x

@@ -7,8 +7,8 @@ use Rattle.protocol.specs.Instance.{Instance}
 use Rattle.protocol.specs.Run.{crashesOf}
 use Rattle.protocol.specs.CrashCount.{crashedCount}
 use Rattle.protocol.specs.Consensus.{IsProcess, UniformConsensus, CountsCrashes, NoLater, endsOf, endOf, latestOf}
-use Rattle.ticket.specs.Reading.{accepted}
-use Rattle.ticket.specs.Ticket.{readTicket}
+use Rattle.formats.specs.Reading.{accepted}
+use Rattle.formats.specs.Ticket.{readTicket}
 use Rattle.running.specs.Answer.{Ran}
 use Rattle.running.specs.declared.RunAnswer.the-variants.{Written}
 use Rattle.demands.specs.Said.{endSaid, crashesSaid}

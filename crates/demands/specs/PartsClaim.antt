@@ -4,8 +4,8 @@ use mathlib.Core.Path.{_≡_}
 use Prim.Native.Nat.{ℕ}
 use Rattle.protocol.specs.Instance.{Instance}
 use Rattle.protocol.specs.Consensus.{UniformConsensus, NoLater}
-use Rattle.ticket.specs.Reading.{accepted}
-use Rattle.ticket.specs.Ticket.{readTicket}
+use Rattle.formats.specs.Reading.{accepted}
+use Rattle.formats.specs.Ticket.{readTicket}
 use Rattle.parts.specs.DecideAlike.{DecideAlike, NoneRefused}
 use Rattle.parts.specs.PartEnds.{endByPart, latestByParts}
 use Rattle.demands.specs.PairedTexts.{PairedTexts}

@@ -7,8 +7,8 @@ use lib.Dec.{eqb}
 use lib.ListN.{getD, drop}
 use Rattle.general.specs.BigEndian.{number}
 use Rattle.protocol.specs.Round.{State, undecided, decided, crashed}
-use Rattle.lines.specs.Line.{Line, bytes, noLine, linesOf}
-use Rattle.kinds.specs.Accept.{isKind}
+use Rattle.formats.specs.Line.{Line, bytes, noLine, linesOf}
+use Rattle.formats.specs.Accept.{isKind}
 
 -- A station line of process p with this end: 11, station, end, round, value (4 bytes).
 unfoldable pub isProcessLine : (p end : ℕ) → List ℕ → Bool

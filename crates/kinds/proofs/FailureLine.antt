@@ -13,10 +13,10 @@ use Rattle.tables.specs.InstanceReading.{instanceOf}
 use Rattle.tables.specs.declared.InstanceTable.{InstanceTable}
 use Rattle.lines.specs.Bytes.{byteAt, bytesAt}
 use Rattle.lines.proofs.Bytes.{getD-bytesAt, take-bytesAt, drop-bytesAt}
-use Rattle.kinds.specs.Step.{next, refuse}
-use Rattle.checks.specs.declared.FailureLine.{FailureLine}
-use Rattle.checks.specs.FailureLine.{placesCrash, suitsStep}
-use Rattle.kinds.specs.Accept.{failures, ended, failureLine, withCrash, acceptCrash, acceptFailure}
+use Rattle.formats.specs.Step.{next, refuse}
+use Rattle.formats.specs.declared.FailureLine.{FailureLine}
+use Rattle.formats.specs.FailureLine.{placesCrash, suitsStep}
+use Rattle.formats.specs.Accept.{failures, ended, failureLine, withCrash, acceptCrash, acceptFailure}
 use Rattle.kinds.proofs.LineKind.{other-size, other-kind, of-kind}
 
 -- Station, round, step, set and count of a failure line.

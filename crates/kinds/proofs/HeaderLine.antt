@@ -9,8 +9,8 @@ use borrow.Author.Tests.{not-true, not-false}
 use Rattle.protocol.specs.Instance.{withinLimits}
 use Rattle.lines.specs.Bytes.{byteAt, bytesAt}
 use Rattle.lines.proofs.Bytes.{getD-bytesAt}
-use Rattle.kinds.specs.Step.{next, refuse}
-use Rattle.kinds.specs.Accept.{proposals, acceptHeader}
+use Rattle.formats.specs.Step.{next, refuse}
+use Rattle.formats.specs.Accept.{proposals, acceptHeader}
 use Rattle.kinds.proofs.LineKind.{other-size, other-kind, of-kind}
 
 -- 01, n, t.

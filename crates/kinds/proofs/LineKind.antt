@@ -8,7 +8,7 @@ use lib.ListN.{getD}
 use borrow.Author.Tests.{eq-eqb, ne-eqb}
 use Rattle.lines.specs.Bytes.{byteAt, bytesAt}
 use Rattle.lines.proofs.Bytes.{length-bytesAt, getD-bytesAt}
-use Rattle.kinds.specs.Accept.{isKind}
+use Rattle.formats.specs.Accept.{isKind}
 
 module _ (text : List ℕ) (at size kind wanted : ℕ) where
   pub other-size : (size ≡ wanted → ⊥) → isKind kind wanted (bytesAt text at size) ≡ false

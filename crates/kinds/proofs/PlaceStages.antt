@@ -5,8 +5,8 @@ use Prim.Native.Nat.{ℕ, _≤_, _<_}
 use lib.ListN.{take}
 use Rattle.tables.specs.InstanceReading.{instanceOf}
 use Rattle.tables.specs.declared.InstanceTable.{InstanceTable}
-use Rattle.kinds.specs.Step.{refuse}
-use Rattle.kinds.specs.Accept.{acceptProposal, acceptFailure, accept}
+use Rattle.formats.specs.Step.{refuse}
+use Rattle.formats.specs.Accept.{acceptProposal, acceptFailure, accept}
 use Rattle.kinds.specs.Progress.{stageOf, stepOf, Storable, HasPlaces, Crashless, Holds}
 use Rattle.kinds.specs.declared.Place.{Place}
 use Rattle.kinds.specs.declared.Place.the-variants.{Proposals, Failures, Ended}

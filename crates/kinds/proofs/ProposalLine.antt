@@ -8,8 +8,8 @@ use borrow.Author.Tests.{eq-eqb, ne-eqb}
 use Rattle.general.specs.BigEndian.{number}
 use Rattle.lines.specs.Bytes.{byteAt, bytesAt}
 use Rattle.lines.proofs.Bytes.{getD-bytesAt, drop-bytesAt}
-use Rattle.kinds.specs.Step.{Step, next, refuse}
-use Rattle.kinds.specs.Accept.{Stage, afterProposal, acceptProposal}
+use Rattle.formats.specs.Step.{Step, next, refuse}
+use Rattle.formats.specs.Accept.{Stage, afterProposal, acceptProposal}
 use Rattle.kinds.proofs.LineKind.{other-size, other-kind, of-kind}
 
 -- 02, station, value (4 bytes), after `count` proposals.

@@ -12,8 +12,8 @@ use Rattle.general.proofs.Lists.{take-replicate}
 use Rattle.protocol.specs.Instance.{Fault, correct}
 use Rattle.tables.specs.InstanceReading.{faultFrom, faultIn, instanceOf}
 use Rattle.tables.specs.declared.InstanceTable.{InstanceTable}
-use Rattle.kinds.specs.Step.{next}
-use Rattle.kinds.specs.Accept.{proposals, failures, afterProposal}
+use Rattle.formats.specs.Step.{next}
+use Rattle.formats.specs.Accept.{proposals, failures, afterProposal}
 use Rattle.kinds.specs.Progress.{Crashless, withValue}
 
 -- One proposal more.

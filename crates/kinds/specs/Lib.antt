@@ -1,3 +1,1 @@
-pub mod Step
-pub mod Accept
 pub mod Progress

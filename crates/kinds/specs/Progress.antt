@@ -5,8 +5,8 @@ use mathlib.Core.List.{[]}
 use lib.ListN.{length, take, set, replicate}
 use Rattle.tables.specs.InstanceReading.{instanceOf}
 use Rattle.tables.specs.declared.InstanceTable.{InstanceTable}
-use Rattle.kinds.specs.Step.{Step, next, refuse}
-use Rattle.kinds.specs.Accept.{Stage, proposals, failures, ended, withCrash}
+use Rattle.formats.specs.Step.{Step, next, refuse}
+use Rattle.formats.specs.Accept.{Stage, proposals, failures, ended, withCrash}
 use Rattle.kinds.specs.declared.Place.{Place}
 use Rattle.kinds.specs.declared.Place.the-variants.{Proposals, Failures, Ended}
 use Rattle.kinds.specs.declared.HeaderAnswer.{HeaderAnswer}

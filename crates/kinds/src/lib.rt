@@ -1,5 +1,5 @@
 // One line of a ticket: what each stage makes of it (document 01, 'The ticket' and refusals 3 to 8).
-use checks::FailureLine;
+use formats::FailureLine;
 ghost use mathlib.Core.Path.{_≡_};
 ghost use mathlib.Core.List.{[], _∷_, _++_};
 ghost use Prim.Native.Nat.{_≤_, _<_};
@@ -7,8 +7,8 @@ ghost use lib.ListN.{take};
 ghost use Rattle.lines.specs.Bytes.{bytesAt, HoldsBytes};
 ghost use Rattle.tables.specs.InstanceReading.{instanceOf};
 ghost use Rattle.tables.specs.declared.InstanceTable.{InstanceTable};
-ghost use Rattle.kinds.specs.Step.{next};
-ghost use Rattle.kinds.specs.Accept.{acceptHeader, afterProposal, acceptProposal, failureLine, acceptCrash, acceptFailure, accept};
+ghost use Rattle.formats.specs.Step.{next};
+ghost use Rattle.formats.specs.Accept.{acceptHeader, afterProposal, acceptProposal, failureLine, acceptCrash, acceptFailure, accept};
 ghost use Rattle.kinds.specs.declared.Place.the-variants.{Proposals, Failures};
 ghost use Rattle.kinds.specs.Progress.{stageOf, headerStep, stepOf, Storable, HasPlaces, Crashless, Holds};
 

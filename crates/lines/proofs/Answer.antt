@@ -8,9 +8,9 @@ use native.Mathlib.Numerals.{add-one}
 use lib.Dec.{eqb}
 use lib.ListN.{length, getD, drop, drop-of-length-le, length-drop}
 use lib.Seq.{drop-cons, drop-drop, getD-drop}
-use Rattle.lines.specs.Digit.{isDigit}
+use Rattle.formats.specs.Digit.{isDigit}
 use Rattle.lines.specs.DigitCount.{digitCount}
-use Rattle.lines.specs.Line.{Scan, even, odd, broken, scan, closed, unclosed, linesFrom, linesOf}
+use Rattle.formats.specs.Line.{Scan, even, odd, broken, scan, closed, unclosed, linesFrom, linesOf}
 use Rattle.lines.specs.Bytes.{HoldsBytes}
 use Rattle.lines.specs.Read.{firstLine, readAt}
 use Rattle.lines.specs.LineAt.{LineAt}

@@ -5,7 +5,7 @@ use Prim.Native.Nat.{ℕ, zero, suc, _+_, _*_, _-_, _≤_, _<_}
 use native.Mathlib.Omega.{arith}
 use lib.ListN.{length, getD, take, drop}
 use Rattle.general.proofs.Bytes.{Bytes}
-use Rattle.lines.specs.Digit.{digitValue}
+use Rattle.formats.specs.Digit.{digitValue}
 use Rattle.lines.specs.Bytes.{byteAt, bytesAt, HoldsBytes}
 use Rattle.lines.proofs.Digit.{digit-value}
 

@@ -4,7 +4,7 @@ use mathlib.Core.Bool.{true, false}
 use Prim.Native.Nat.{ℕ, _-_, _≤_, _<_}
 use native.Mathlib.Omega.{arith}
 use borrow.Author.Tests.{le-leb, lt-leb, leb-true}
-use Rattle.lines.specs.Digit.{digitValue, isDigit, noDigit}
+use Rattle.formats.specs.Digit.{digitValue, isDigit, noDigit}
 
 pub value-below : (c : ℕ) → c < 48 → digitValue c ≡ noDigit
 unfolding digitValue

@@ -7,7 +7,7 @@ use native.Mathlib.Omega.{arith}
 use native.Mathlib.Numerals.{add-one}
 use lib.ListN.{length, getD, drop, drop-of-length-le}
 use lib.Seq.{drop-cons}
-use Rattle.lines.specs.Digit.{digitValue, isDigit}
+use Rattle.formats.specs.Digit.{digitValue, isDigit}
 use Rattle.lines.specs.DigitCount.{digitCount}
 use Rattle.lines.proofs.Digit.{value-digit, value-no-digit}
 

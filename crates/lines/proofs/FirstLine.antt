@@ -9,8 +9,8 @@ use native.Mathlib.Numerals.{add-one}
 use borrow.Author.Tests.{ne-eqb}
 use lib.ListN.{length, getD, drop}
 use lib.Seq.{drop-cons, append-snoc}
-use Rattle.lines.specs.Digit.{digitValue, isDigit}
-use Rattle.lines.specs.Line.{bytes, Scan, even, odd, broken, scan, closed, linesFrom, linesOf}
+use Rattle.formats.specs.Digit.{digitValue, isDigit}
+use Rattle.formats.specs.Line.{bytes, Scan, even, odd, broken, scan, closed, linesFrom, linesOf}
 use Rattle.lines.specs.Bytes.{byteAt, bytesAt, HoldsBytes}
 use Rattle.lines.proofs.Digit.{digit-not-0A}
 use Rattle.lines.proofs.Bytes.{holds-front, holds-part}

@@ -6,7 +6,7 @@ use native.Mathlib.Omega.{arith}
 use lib.Dec.{eqb}
 use borrow.Author.Tests.{eqb-true}
 use Rattle.general.proofs.Tests.{everyBelow, every-below-at}
-use Rattle.lines.specs.Digit.{digitValue, isDigit}
+use Rattle.formats.specs.Digit.{digitValue, isDigit}
 use Rattle.lines.proofs.Digit.{value-digit}
 
 -- A letter has bit 6, and its low four bits count from 1.

@@ -2,7 +2,6 @@ pub mod Digit
 pub mod KnownDigit
 pub mod DigitCount
 pub mod Bytes
-pub mod LineBytes
 pub mod FirstLine
 pub mod Answer
 pub mod Read

@@ -8,9 +8,9 @@ use lib.Dec.{eqb}
 use lib.ListN.{length, getD, drop, drop-of-length-le}
 use lib.Seq.{drop-cons}
 use Rattle.general.proofs.Tests.{by-order, by-equal}
-use Rattle.lines.specs.Digit.{isDigit}
+use Rattle.formats.specs.Digit.{isDigit}
 use Rattle.lines.specs.DigitCount.{digitCount}
-use Rattle.lines.specs.Line.{Line, bytes, noLine, Scan, even, odd, broken, scan, unclosed, linesFrom, linesOf}
+use Rattle.formats.specs.Line.{Line, bytes, noLine, Scan, even, odd, broken, scan, unclosed, linesFrom, linesOf}
 use Rattle.lines.specs.Read.{firstLine, readAt}
 use Rattle.lines.specs.LineAt.{LineAt}
 use Rattle.lines.specs.declared.Cursor.{Cursor}

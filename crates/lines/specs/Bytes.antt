@@ -4,7 +4,7 @@ use mathlib.Core.Path.{_≡_}
 use mathlib.Core.Bool.{true}
 use Prim.Native.Nat.{ℕ, zero, suc, _+_, _*_, _≤_, _<_}
 use lib.ListN.{length, getD}
-use Rattle.lines.specs.Digit.{digitValue, isDigit}
+use Rattle.formats.specs.Digit.{digitValue, isDigit}
 
 -- The byte whose two digits stand at a place of a text.
 unfoldable pub byteAt : List ℕ → ℕ → ℕ

@@ -2,7 +2,7 @@
 use mathlib.Core.List.{List, [], _∷_}
 use Prim.Native.Nat.{ℕ, suc}
 use mathlib.Core.Bool.{cond}
-use Rattle.lines.specs.Digit.{isDigit}
+use Rattle.formats.specs.Digit.{isDigit}
 
 -- How many digits a text begins with.
 unfoldable pub digitCount : List ℕ → ℕ

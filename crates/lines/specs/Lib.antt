@@ -1,5 +1,3 @@
-pub mod Digit
-pub mod Line
 pub mod DigitCount
 pub mod Read
 pub mod Bytes

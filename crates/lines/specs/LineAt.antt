@@ -3,7 +3,7 @@ use mathlib.Core.List.{List, _∷_}
 use mathlib.Core.Path.{_≡_}
 use Prim.Native.Nat.{ℕ, _+_, _*_, _≤_, _<_}
 use lib.ListN.{length, drop}
-use Rattle.lines.specs.Line.{bytes, linesOf}
+use Rattle.formats.specs.Line.{bytes, linesOf}
 use Rattle.lines.specs.Bytes.{byteAt, bytesAt, HoldsBytes}
 use Rattle.lines.specs.declared.Cursor.{Cursor}
 

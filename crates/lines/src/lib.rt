@@ -3,7 +3,7 @@ ghost use mathlib.Core.Path.{_≡_};
 ghost use Prim.Native.Nat.{_+_, _*_, _≤_, _<_};
 ghost use lib.ListN.{drop};
 ghost use Rattle.general.specs.BigEndian.{number};
-ghost use Rattle.lines.specs.Digit.{digitValue};
+ghost use Rattle.formats.specs.Digit.{digitValue};
 ghost use Rattle.lines.specs.DigitCount.{digitCount};
 ghost use Rattle.lines.specs.Read.{readAt};
 ghost use Rattle.lines.specs.Bytes.{byteAt, bytesAt, HoldsBytes};

@@ -8,7 +8,7 @@ use borrow.Author.Tests.{lt-ltb, le-ltb}
 use lib.ListN.{length, set, drop, getD, take, length-take, length-append}
 use lib.Seq.{take-suc, take-all}
 use Rattle.general.proofs.Overwrite.{set-seam}
-use Rattle.result.specs.HexText.{digitOf, hexDigits, hexLine}
+use Rattle.formats.specs.HexText.{digitOf, hexDigits, hexLine}
 
 pub digit-decimal : (v : ℕ) → v < 10 → digitOf v ≡ 48 + v
 unfolding digitOf

@@ -15,8 +15,8 @@ use Rattle.general.proofs.Overwrite.{put-part}
 use Rattle.protocol.specs.Round.{State, undecided, decided, crashed, stateOf}
 use Rattle.protocol.specs.Run.{Run}
 use Rattle.tables.specs.RunReading.{stateByEnd}
-use Rattle.result.specs.HexText.{digitOf, hexDigits, hexLine}
-use Rattle.result.specs.ResultLine.{endBytes, processLine, lastLine, processLineSize, lastLineSize, joined, resultLines, resultSize, refusalLine}
+use Rattle.formats.specs.HexText.{digitOf, hexDigits, hexLine}
+use Rattle.formats.specs.ResultLine.{endBytes, processLine, lastLine, processLineSize, lastLineSize, joined, resultLines, resultSize, refusalLine}
 
 -- What `process_bytes` returns, by the process's end.
 module _ (line : List ℕ) (p end round v : ℕ) where

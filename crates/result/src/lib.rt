@@ -6,8 +6,8 @@ ghost use lib.ListN.{length, set, drop};
 ghost use Rattle.general.specs.BigEndian.{bytesOf};
 ghost use Rattle.general.specs.Indexed.{mapFrom};
 ghost use Rattle.tables.specs.RunReading.{stateByEnd, statesIn, runFrom};
-ghost use Rattle.result.specs.HexText.{digitOf, hexLine, lineSize};
-ghost use Rattle.result.specs.ResultLine.{endBytes, processLine, processLineSize, joined, resultLines, resultSize, refusalLine};
+ghost use Rattle.formats.specs.HexText.{digitOf, hexLine, lineSize};
+ghost use Rattle.formats.specs.ResultLine.{endBytes, processLine, processLineSize, joined, resultLines, resultSize, refusalLine};
 use tables::RunTable;
 
 // The length of a process's line, 16 digits and 0A, and of the last line.

@@ -18,16 +18,16 @@ use Rattle.tables.specs.InstanceReading.{instanceOf}
 use Rattle.tables.specs.declared.InstanceTable.{InstanceTable}
 use Rattle.tables.specs.declared.RunTable.{RunTable}
 use Rattle.tables.specs.RunReading.{runFrom, statesIn}
-use Rattle.ticket.specs.Reading.{Reading, accepted, refused}
-use Rattle.ticket.specs.Ticket.{readTicket}
+use Rattle.formats.specs.Reading.{Reading, accepted, refused}
+use Rattle.formats.specs.Ticket.{readTicket}
 use Rattle.ticket.specs.Answer.{readingFrom, readingOf}
 use Rattle.ticket.specs.declared.Answer.{Answer}
 use Rattle.ticket.specs.declared.TicketRead.{TicketRead}
-use Rattle.ticket.proofs.WellFormed.{accepted-well-formed}
-use Rattle.result.specs.ResultLine.{resultText, resultLines, resultSize}
+use Rattle.formats.proofs.WellFormed.{accepted-well-formed}
+use Rattle.formats.specs.ResultLine.{resultText, resultLines, resultSize}
 use Rattle.result.proofs.ResultLine.{length-result}
-use Rattle.running.specs.Running.{resultIn, running, bufferAfter}
-use Rattle.running.specs.Settle.{Settles}
+use Rattle.formats.specs.Running.{resultIn, running, bufferAfter}
+use Rattle.formats.specs.Settle.{Settles}
 use Rattle.running.specs.Answer.{answerOf, Ran, settlingOf}
 use Rattle.running.specs.declared.RunAnswer.{RunAnswer}
 use Rattle.running.specs.declared.RunAnswer.the-variants.{Written, Refused}

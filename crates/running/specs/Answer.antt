@@ -3,12 +3,12 @@ use mathlib.Core.List.{List}
 use mathlib.Core.Path.{_≡_}
 use Prim.Native.Nat.{ℕ}
 use lib.ListN.{length}
-use Rattle.ticket.specs.Reading.{Reading, accepted, refused}
+use Rattle.formats.specs.Reading.{Reading, accepted, refused}
 use Rattle.running.specs.declared.RunAnswer.{RunAnswer}
 use Rattle.running.specs.declared.RunAnswer.the-variants.{Written, Refused}
 use Rattle.running.specs.declared.SettleAnswer.{SettleAnswer}
 use Rattle.running.specs.declared.SettleAnswer.the-variants.{Round, Unsettled}
-use Rattle.running.specs.Running.{running, bufferAfter}
+use Rattle.formats.specs.Running.{running, bufferAfter}
 
 -- The answer of running: how many bytes the result has, or the refusal with its line.
 unfoldable pub answerOf : Reading (List ℕ) → RunAnswer

@@ -1,7 +1,7 @@
 // Running and settling a ticket (document 01, 'The result' and 'Refused calls'): total on every text and every buffer.
-ghost use Rattle.ticket.specs.Ticket.{readTicket};
+ghost use Rattle.formats.specs.Ticket.{readTicket};
 ghost use Rattle.ticket.specs.Header.{AfterHeader};
-ghost use Rattle.running.specs.Settle.{Settles};
+ghost use Rattle.formats.specs.Settle.{Settles};
 ghost use Rattle.running.specs.Answer.{Ran, settlingOf};
 use ticket::Answer;
 use ticket::HeaderRead;

@@ -5,8 +5,8 @@ ghost use mathlib.Core.Path.{_≡_};
 ghost use mathlib.Core.List.{_++_};
 ghost use Prim.Native.Nat.{_≤_};
 ghost use lib.ListN.{length, take, drop};
-ghost use Rattle.result.specs.ResultLine.{resultSize, refusalLine};
-ghost use Rattle.running.specs.Running.{programWrites};
+ghost use Rattle.formats.specs.ResultLine.{resultSize, refusalLine};
+ghost use Rattle.formats.specs.Running.{programWrites};
 ghost use Rattle.simulate.specs.Input.{Within};
 use running::RunAnswer;
 

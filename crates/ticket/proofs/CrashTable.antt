@@ -11,9 +11,9 @@ use Rattle.protocol.specs.Instance.{Fault, correct, faultOf}
 use Rattle.tables.specs.InstanceReading.{faultFrom, instanceOf}
 use Rattle.tables.specs.declared.InstanceTable.{InstanceTable}
 use Rattle.tables.proofs.Places.{length-pattern, fault-at}
-use Rattle.checks.specs.declared.FailureLine.{FailureLine}
-use Rattle.checks.specs.FailureLine.{faultBy}
-use Rattle.kinds.specs.Accept.{withCrash}
+use Rattle.formats.specs.declared.FailureLine.{FailureLine}
+use Rattle.formats.specs.FailureLine.{faultBy}
+use Rattle.formats.specs.Accept.{withCrash}
 
 -- The table with a failure line at the place of its process.
 abbrev pub stored : InstanceTable → FailureLine → InstanceTable

@@ -5,24 +5,24 @@ use Prim.Native.Nat.{ℕ, _≤_, _<_}
 use native.Mathlib.Omega.{arith}
 use lib.ListN.{length, drop}
 use borrow.Author.Tests.{le-ltb, lt-ltb}
-use Rattle.lines.specs.Line.{linesOf}
+use Rattle.formats.specs.Line.{linesOf}
 use Rattle.lines.specs.Bytes.{bytesAt}
 use Rattle.lines.specs.Read.{readAt}
 use Rattle.lines.specs.LineAt.{LineAt}
 use Rattle.lines.specs.declared.Cursor.{Cursor}
 use Rattle.lines.specs.declared.LineRead.the-variants.{NoLine}
 use Rattle.lines.proofs.Read.{read-no-line, lines-at-end}
-use Rattle.kinds.specs.Step.{next}
-use Rattle.ticket.specs.Reading.{refused, proceed, readFrom}
-use Rattle.kinds.specs.Accept.{header, proposals, acceptHeader, accept}
-use Rattle.ticket.specs.Ticket.{ticketLimit, atEnd, readTicket}
+use Rattle.formats.specs.Step.{next}
+use Rattle.formats.specs.Reading.{refused, proceed, readFrom}
+use Rattle.formats.specs.Accept.{header, proposals, acceptHeader, accept}
+use Rattle.formats.specs.Ticket.{ticketLimit, atEnd, readTicket}
 use Rattle.ticket.specs.Header.{AfterHeader}
 use Rattle.kinds.specs.Progress.{headerStep}
 use Rattle.kinds.specs.declared.HeaderAnswer.{HeaderAnswer}
 use Rattle.kinds.specs.declared.HeaderAnswer.the-variants.{Limits, Refused}
-use Rattle.ticket.proofs.Keeping.{Keeps}
+use Rattle.formats.proofs.Keeping.{Keeps}
 use Rattle.protocol.proofs.Limits.{limits-pass}
-use Rattle.ticket.proofs.WellFormed.{StageAllowed, header-keeps}
+use Rattle.formats.proofs.WellFormed.{StageAllowed, header-keeps}
 
 pub too-long : (text : List ℕ) → ticketLimit < length text → readTicket text ≡ refused 1 0
 unfolding readTicket

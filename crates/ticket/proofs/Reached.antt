@@ -6,7 +6,7 @@ use native.Mathlib.Numerals.{add-one}
 use native.Mathlib.Omega.{arith}
 use lib.ListN.{length, drop, replicate, length-take, length-set}
 use Rattle.general.proofs.Bytes.{Bytes}
-use Rattle.lines.specs.Line.{linesOf}
+use Rattle.formats.specs.Line.{linesOf}
 use Rattle.lines.specs.Bytes.{bytesAt}
 use Rattle.lines.specs.Read.{readAt}
 use Rattle.lines.specs.LineAt.{LineAt}
@@ -17,20 +17,20 @@ use Rattle.lines.proofs.Read.{read-no-line, lines-at-end}
 use Rattle.protocol.specs.Instance.{Instance}
 use Rattle.tables.specs.InstanceReading.{instanceOf}
 use Rattle.tables.specs.declared.InstanceTable.{InstanceTable}
-use Rattle.kinds.specs.Step.{next}
-use Rattle.ticket.specs.Reading.{refused, proceed, readFrom}
-use Rattle.kinds.specs.Accept.{failures, accept}
-use Rattle.ticket.specs.Ticket.{atEnd, readTicket}
+use Rattle.formats.specs.Step.{next}
+use Rattle.formats.specs.Reading.{refused, proceed, readFrom}
+use Rattle.formats.specs.Accept.{failures, accept}
+use Rattle.formats.specs.Ticket.{atEnd, readTicket}
 use Rattle.ticket.specs.Header.{AfterHeader}
 use Rattle.kinds.specs.Progress.{stageOf, stepOf, Storable, HasPlaces, Holds, withValue}
-use Rattle.checks.specs.declared.FailureLine.{FailureLine}
+use Rattle.formats.specs.declared.FailureLine.{FailureLine}
 use Rattle.kinds.specs.declared.Place.{Place}
 use Rattle.kinds.specs.declared.Place.the-variants.{Proposals, Failures, Ended}
 use Rattle.kinds.specs.declared.LineAnswer.{LineAnswer}
 use Rattle.kinds.specs.declared.LineAnswer.the-variants.{Proposal, Crash, End, Refused}
-use Rattle.ticket.proofs.Keeping.{Keeps}
+use Rattle.formats.proofs.Keeping.{Keeps}
 use Rattle.ticket.proofs.CrashTable.{stored, Full, full-roomy, full-stored, crash-stored}
-use Rattle.ticket.proofs.WellFormed.{StageAllowed, first-allowed, stage-keeps}
+use Rattle.formats.proofs.WellFormed.{StageAllowed, first-allowed, stage-keeps}
 
 -- A stage that is allowed has its places in the table.
 pub allowed-places : (place : Place) (table : InstanceTable) → length (table .values) ≡ 64 → StageAllowed (stageOf place table) → HasPlaces place (table .n)

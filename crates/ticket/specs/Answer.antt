@@ -2,7 +2,7 @@
 use Rattle.protocol.specs.Instance.{Instance}
 use Rattle.tables.specs.InstanceReading.{instanceOf}
 use Rattle.tables.specs.declared.InstanceTable.{InstanceTable}
-use Rattle.ticket.specs.Reading.{Reading, accepted, refused}
+use Rattle.formats.specs.Reading.{Reading, accepted, refused}
 use Rattle.ticket.specs.declared.Answer.{Answer}
 use Rattle.ticket.specs.declared.Answer.the-variants.{Accepted, Refused}
 use Rattle.ticket.specs.declared.TicketRead.{TicketRead}

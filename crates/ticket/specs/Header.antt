@@ -5,10 +5,10 @@ use mathlib.Core.Bool.{true}
 use Prim.Native.Nat.{ℕ, _≤_}
 use lib.ListN.{length, drop}
 use Rattle.protocol.specs.Instance.{withinLimits}
-use Rattle.lines.specs.Line.{linesOf}
-use Rattle.ticket.specs.Reading.{refused, readFrom}
-use Rattle.kinds.specs.Accept.{proposals, accept}
-use Rattle.ticket.specs.Ticket.{ticketLimit, atEnd, readTicket}
+use Rattle.formats.specs.Line.{linesOf}
+use Rattle.formats.specs.Reading.{refused, readFrom}
+use Rattle.formats.specs.Accept.{proposals, accept}
+use Rattle.formats.specs.Ticket.{ticketLimit, atEnd, readTicket}
 use Rattle.ticket.specs.declared.HeaderRead.{HeaderRead}
 use Rattle.ticket.specs.declared.HeaderRead.the-variants.{Limits, Refused}
 

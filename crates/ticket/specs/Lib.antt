@@ -1,4 +1,2 @@
-pub mod Reading
-pub mod Ticket
 pub mod Answer
 pub mod Header

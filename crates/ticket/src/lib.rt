@@ -7,7 +7,7 @@ use lines::LineRead;
 use tables::InstanceTable;
 ghost use mathlib.Core.Path.{_≡_};
 ghost use Rattle.tables.specs.declared.InstanceTable.{InstanceTable};
-ghost use Rattle.ticket.specs.Ticket.{atEnd, readTicket};
+ghost use Rattle.formats.specs.Ticket.{atEnd, readTicket};
 ghost use Rattle.kinds.specs.Progress.{stageOf};
 ghost use Rattle.ticket.specs.Answer.{readingFrom, readingOf};
 ghost use Rattle.ticket.specs.Header.{AfterHeader, HeaderSays};

@@ -3,7 +3,7 @@ use mathlib.Core.Path.{_∙_, sym}
 use native.Mathlib.Omega.{arith}
 use borrow.Author.Tests.{not-false}
 use borrow.Author.Needs.{needs}
-use Rattle.checks.proofs.CrashAllowed.{crash-placed}
+use Rattle.formats.proofs.CrashAllowed.{crash-placed}
 use Rattle.kinds.proofs.FailureLine.{crash-many, crash-unplaced, crash-unsuited, crash-next}
 use Rattle.kinds.proofs.crash_line.Statement.{statement}
 use Rattle.kinds.proofs.crash_line.Tie as tie

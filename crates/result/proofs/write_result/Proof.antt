@@ -2,7 +2,7 @@
 use Rattle.result.proofs.ResultLine.{result-written}
 use Rattle.result.proofs.write_result.Statement.{statement}
 use Rattle.result.proofs.write_result.Tie as tie
-use Rattle.result.specs.ResultLine.{resultSize}
+use Rattle.formats.specs.ResultLine.{resultSize}
 use Rattle.tables.proofs.Places.{length-statesIn}
 use Rattle.tables.specs.RunReading.{runFrom}
 use borrow.Author.Needs.{needs}

@@ -3,9 +3,9 @@ use mathlib.Core.Path.{_≡_}
 use borrow.Author.Needs.{needs}
 use native.Mathlib.Omega.{arith}
 use Rattle.tables.specs.InstanceReading.{instanceOf}
-use Rattle.ticket.specs.Reading.{accepted}
-use Rattle.ticket.specs.Ticket.{readTicket}
-use Rattle.ticket.proofs.WellFormed.{accepted-well-formed}
+use Rattle.formats.specs.Reading.{accepted}
+use Rattle.formats.specs.Ticket.{readTicket}
+use Rattle.formats.proofs.WellFormed.{accepted-well-formed}
 use Rattle.running.proofs.Answers.{read-refused, read-accepted, ran-refused, ran-short, ran-written}
 use Rattle.running.proofs.run_rest.Statement.{statement}
 use Rattle.running.proofs.run_rest.Tie as tie

@@ -2,9 +2,9 @@
 use mathlib.Core.Path.{_≡_}
 use borrow.Author.Needs.{needs}
 use Rattle.tables.specs.InstanceReading.{instanceOf}
-use Rattle.ticket.specs.Reading.{accepted}
-use Rattle.ticket.specs.Ticket.{readTicket}
-use Rattle.ticket.proofs.WellFormed.{accepted-well-formed}
+use Rattle.formats.specs.Reading.{accepted}
+use Rattle.formats.specs.Ticket.{readTicket}
+use Rattle.formats.proofs.WellFormed.{accepted-well-formed}
 use Rattle.running.proofs.Answers.{read-refused, read-accepted, settles-refused, settles-last}
 use Rattle.running.proofs.settle_rest.Statement.{statement}
 use Rattle.running.proofs.settle_rest.Tie as tie

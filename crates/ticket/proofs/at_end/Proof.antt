@@ -7,8 +7,8 @@ use denote.Enum.Declared.{tagOf}
 use types.Run.{OneOf, miss}
 use Rattle.tables.specs.InstanceReading.{instanceOf}
 use Rattle.tables.specs.declared.InstanceTable.{InstanceTable}
-use Rattle.ticket.specs.Reading.{accepted, refused}
-use Rattle.ticket.specs.Ticket.{atEnd}
+use Rattle.formats.specs.Reading.{accepted, refused}
+use Rattle.formats.specs.Ticket.{atEnd}
 use Rattle.kinds.specs.Progress.{stageOf}
 use Rattle.kinds.specs.declared.Place.{Place}
 use Rattle.kinds.specs.declared.Place.the-variants.{Proposals, Failures, Ended}

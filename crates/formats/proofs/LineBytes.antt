@@ -7,8 +7,8 @@ use native.Mathlib.Omega.{arith}
 use lib.Dec.{eqb}
 use borrow.Author.Tests.{leb-true}
 use Rattle.general.proofs.Bytes.{Bytes, below-snoc}
-use Rattle.lines.specs.Digit.{digitValue, isDigit}
-use Rattle.lines.specs.Line.{Line, bytes, noLine, Scan, even, odd, broken, scan, closed, unclosed, linesFrom, linesOf}
+use Rattle.formats.specs.Digit.{digitValue, isDigit}
+use Rattle.formats.specs.Line.{Line, bytes, noLine, Scan, even, odd, broken, scan, closed, unclosed, linesFrom, linesOf}
 
 -- Every line of the list gives bytes, or nothing.
 unfoldable pub Lines : List Line → Type 0

@@ -4,10 +4,10 @@ use mathlib.Core.Path.{_≡_, refl}
 use mathlib.Core.Bool.{Bool, true, false, cond, not}
 use Prim.Native.Nat.{ℕ, suc}
 use Rattle.general.proofs.Bytes.{Bytes}
-use Rattle.lines.specs.Line.{Line, bytes, noLine}
-use Rattle.kinds.specs.Step.{Step, next, refuse}
-use Rattle.ticket.specs.Reading.{Reading, accepted, refused, proceed, readFrom}
-use Rattle.lines.proofs.LineBytes.{Lines}
+use Rattle.formats.specs.Line.{Line, bytes, noLine}
+use Rattle.formats.specs.Step.{Step, next, refuse}
+use Rattle.formats.specs.Reading.{Reading, accepted, refused, proceed, readFrom}
+use Rattle.formats.proofs.LineBytes.{Lines}
 
 -- The next stage, if there is one, has the property.
 unfoldable pub Keeps : {S : Type 0} → (S → Type 0) → Step S → Type 0

@@ -2,8 +2,8 @@
 use mathlib.Core.List.{List, map}
 use mathlib.Core.Path.{_≡_}
 use Prim.Native.Nat.{ℕ}
-use Rattle.running.specs.Running.{programWrites}
-use Rattle.cases.specs.Table.{Case, textOf, cases}
+use Rattle.formats.specs.Running.{programWrites}
+use Rattle.formats.specs.Table.{Case, textOf, cases}
 
 -- What the program writes for the case's ticket.
 unfoldable pub writes : Case → List ℕ

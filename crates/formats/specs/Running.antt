@@ -5,9 +5,9 @@ use mathlib.Core.Bool.{cond}
 use lib.Dec.{ltb}
 use lib.ListN.{length, drop}
 use Rattle.protocol.specs.Instance.{Instance}
-use Rattle.ticket.specs.Reading.{Reading, accepted, refused}
-use Rattle.ticket.specs.Ticket.{readTicket}
-use Rattle.result.specs.ResultLine.{resultText, resultSize, refusalLine}
+use Rattle.formats.specs.Reading.{Reading, accepted, refused}
+use Rattle.formats.specs.Ticket.{readTicket}
+use Rattle.formats.specs.ResultLine.{resultText, resultSize, refusalLine}
 
 -- The result of an instance in a buffer of `room` bytes; refusal 9, of no line, where it does not fit.
 unfoldable pub resultIn : ℕ → Reading Instance → Reading (List ℕ)

@@ -4,7 +4,7 @@ use Prim.Native.Nat.{ℕ}
 use mathlib.Core.Bool.{true}
 use Rattle.protocol.specs.Instance.{Instance}
 use Rattle.protocol.specs.Settling.{qualifies}
-use Rattle.ticket.specs.Reading.{Reading, accepted, refused}
+use Rattle.formats.specs.Reading.{Reading, accepted, refused}
 
 -- An answer of the settling operation, a round or a refusal with its line, is right for a ticket as read: a round that qualifies, or that refusal.
 unfoldable pub Settles : Reading Instance → Reading ℕ → Type 0

@@ -6,7 +6,7 @@ use Rattle.general.specs.Indexed.{mapFrom}
 use Rattle.protocol.specs.Instance.{Instance}
 use Rattle.protocol.specs.Round.{State, undecided, decided, crashed}
 use Rattle.protocol.specs.Run.{Run, runOf, crashesOf}
-use Rattle.result.specs.HexText.{hexLine, lineSize}
+use Rattle.formats.specs.HexText.{hexLine, lineSize}
 
 -- The end of a process (01 decided, 02 dark), the round of it, and the value, 0 if dark. No process is left undecided by the run of an accepted ticket,
 -- so that no result has the end 00 of one that is.

@@ -4,7 +4,7 @@ use mathlib.Core.List.{List, [], _∷_, _++_}
 use Prim.Native.Nat.{ℕ, _+_, _*_}
 use mathlib.Core.Bool.{cond}
 use lib.Dec.{eqb}
-use Rattle.lines.specs.Digit.{digitValue, isDigit}
+use Rattle.formats.specs.Digit.{digitValue, isDigit}
 
 -- What a line gives: its bytes, at least one; or nothing, where it is no line as above.
 pub data Line : Type 0 where

@@ -18,14 +18,14 @@ use Rattle.protocol.specs.Count.{dataAt, commitsAt, countIn, speaks, dataIn, co
 use Rattle.protocol.specs.CrashCount.{isIdle, countsAsCrash, crashCount}
 use Rattle.protocol.specs.Run.{initial, withRound, runTo, runOf, crashesOf}
 use Rattle.protocol.specs.Settling.{valuesHeld, allAre, oneValue, qualifies}
-use Rattle.lines.specs.Digit.{digitValue, isDigit}
-use Rattle.lines.specs.Line.{scan, closed, unclosed, linesFrom, linesOf}
-use Rattle.ticket.specs.Reading.{proceed, readFrom}
-use Rattle.checks.specs.FailureLine.{placesCrash, allBetween, suitsStep}
-use Rattle.kinds.specs.Accept.{isKind, acceptHeader, afterProposal, acceptProposal, failureLine, withCrash, acceptCrash, acceptFailure, accept}
-use Rattle.ticket.specs.Ticket.{atEnd, readTicket}
-use Rattle.cases.specs.Table.{textOf, case1, case9}
-use Rattle.cases.specs.Worked.{qualifiesIn, Case1Settles, boundsOf, Case9MeetsBound}
+use Rattle.formats.specs.Digit.{digitValue, isDigit}
+use Rattle.formats.specs.Line.{scan, closed, unclosed, linesFrom, linesOf}
+use Rattle.formats.specs.Reading.{proceed, readFrom}
+use Rattle.formats.specs.FailureLine.{placesCrash, allBetween, suitsStep}
+use Rattle.formats.specs.Accept.{isKind, acceptHeader, afterProposal, acceptProposal, failureLine, withCrash, acceptCrash, acceptFailure, accept}
+use Rattle.formats.specs.Ticket.{atEnd, readTicket}
+use Rattle.formats.specs.Table.{textOf, case1, case9}
+use Rattle.formats.specs.Worked.{qualifiesIn, Case1Settles, boundsOf, Case9MeetsBound}
 
 pub case-1-settles : Case1Settles
 unfolding Case1Settles qualifiesIn textOf ascii case1 onesIn member ones64 number numberFrom mapFrom pointFrom faultOf withinLimits arriving sends receives amongFirst reachAt reachIn reach stateOf crashesIn sentBy received afterOutcome after statesAfter isUndecided anyUndecided dataAt commitsAt countIn speaks dataIn commitsIn isIdle countsAsCrash crashCount initial withRound runTo runOf crashesOf valuesHeld allAre oneValue qualifies digitValue isDigit scan closed unclosed linesFrom linesOf proceed readFrom isKind acceptHeader afterProposal acceptProposal failureLine placesCrash allBetween suitsStep withCrash acceptCrash acceptFailure accept atEnd readTicket

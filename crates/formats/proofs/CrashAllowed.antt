@@ -8,8 +8,8 @@ use borrow.Author.Tests.{ltb-true, leb-true, eqb-true}
 use Rattle.general.proofs.Tests.{both}
 use Rattle.protocol.specs.Instance.{crashes, beforeSending, duringData, duringCommits, pointFrom}
 use Rattle.protocol.specs.WellFormed.{PointAllowed, FaultAllowed}
-use Rattle.checks.specs.declared.FailureLine.{FailureLine}
-use Rattle.checks.specs.FailureLine.{placesCrash, allBetween, suitsStep, faultBy}
+use Rattle.formats.specs.declared.FailureLine.{FailureLine}
+use Rattle.formats.specs.FailureLine.{placesCrash, allBetween, suitsStep, faultBy}
 
 -- Refusal 8 at each step, as the two tests of the step turn out.
 step-allowed : (n p round reached count : ℕ) (atZero atOne : Bool)

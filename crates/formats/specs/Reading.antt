@@ -1,8 +1,8 @@
 -- Reading a text line by line, whatever the format (document 01, 'Refused calls': "the first wrong line rules, and in it the first that applies").
 use mathlib.Core.List.{List, [], _∷_}
 use Prim.Native.Nat.{ℕ, suc}
-use Rattle.lines.specs.Line.{Line, bytes, noLine}
-use Rattle.kinds.specs.Step.{Step, next, refuse}
+use Rattle.formats.specs.Line.{Line, bytes, noLine}
+use Rattle.formats.specs.Step.{Step, next, refuse}
 
 -- A text is accepted with what it describes, or refused with the number of its refusal and its first wrong line, counted from 1 (0 if no line is wrong).
 pub data Reading (A : Type 0) : Type 0 where

@@ -13,16 +13,16 @@ use Rattle.general.proofs.Bytes.{AllBelow, Bytes, below-snoc, drop-bytes}
 use Rattle.general.proofs.BigEndian.{number-below}
 use Rattle.protocol.specs.Instance.{Instance, correct, faultOf, withinLimits}
 use Rattle.protocol.specs.WellFormed.{FaultAllowed, faultCount, WellFormed}
-use Rattle.lines.specs.Line.{linesOf}
-use Rattle.kinds.specs.Step.{next}
-use Rattle.ticket.specs.Reading.{accepted, refused, readFrom}
-use Rattle.checks.specs.declared.FailureLine.{FailureLine}
-use Rattle.checks.specs.FailureLine.{placesCrash, suitsStep, faultBy}
-use Rattle.kinds.specs.Accept.{Stage, header, proposals, failures, ended, isKind, acceptHeader, afterProposal, acceptProposal, failureLine, withCrash, acceptCrash, acceptFailure, accept}
-use Rattle.ticket.specs.Ticket.{ticketLimit, atEnd, readTicket}
-use Rattle.lines.proofs.LineBytes.{lines-bytes}
-use Rattle.ticket.proofs.Keeping.{Keeps, Gives, keeps-if, keeps-unless, keeps-either, reading-gives}
-use Rattle.checks.proofs.CrashAllowed.{crash-placed, crash-allowed}
+use Rattle.formats.specs.Line.{linesOf}
+use Rattle.formats.specs.Step.{next}
+use Rattle.formats.specs.Reading.{accepted, refused, readFrom}
+use Rattle.formats.specs.declared.FailureLine.{FailureLine}
+use Rattle.formats.specs.FailureLine.{placesCrash, suitsStep, faultBy}
+use Rattle.formats.specs.Accept.{Stage, header, proposals, failures, ended, isKind, acceptHeader, afterProposal, acceptProposal, failureLine, withCrash, acceptCrash, acceptFailure, accept}
+use Rattle.formats.specs.Ticket.{ticketLimit, atEnd, readTicket}
+use Rattle.formats.proofs.LineBytes.{lines-bytes}
+use Rattle.formats.proofs.Keeping.{Keeps, Gives, keeps-if, keeps-unless, keeps-either, reading-gives}
+use Rattle.formats.proofs.CrashAllowed.{crash-placed, crash-allowed}
 use Rattle.protocol.proofs.Limits.{Limits, limits-hold}
 use Rattle.protocol.proofs.FaultsStated.{count-set, faults-none, allowed-set}
 

@@ -8,9 +8,9 @@ use Rattle.protocol.specs.Instance.{Instance}
 use Rattle.protocol.specs.Run.{runOf, crashesOf}
 use Rattle.protocol.specs.SpeakerBound.{boundBySpeakers}
 use Rattle.protocol.specs.Settling.{qualifies}
-use Rattle.ticket.specs.Reading.{Reading, accepted, refused}
-use Rattle.ticket.specs.Ticket.{readTicket}
-use Rattle.cases.specs.Table.{textOf, case1, case9}
+use Rattle.formats.specs.Reading.{Reading, accepted, refused}
+use Rattle.formats.specs.Ticket.{readTicket}
+use Rattle.formats.specs.Table.{textOf, case1, case9}
 
 -- Whether round r qualifies in the run of a ticket as read.
 unfoldable pub qualifiesIn : Reading Instance → ℕ → Bool

@@ -6,9 +6,9 @@ use lib.Dec.{eqb, leb}
 use lib.ListN.{length, getD, take, drop, set, replicate}
 use Rattle.general.specs.BigEndian.{number}
 use Rattle.protocol.specs.Instance.{Instance, correct, withinLimits}
-use Rattle.kinds.specs.Step.{Step, next, refuse}
-use Rattle.checks.specs.declared.FailureLine.{FailureLine}
-use Rattle.checks.specs.FailureLine.{placesCrash, suitsStep, faultBy}
+use Rattle.formats.specs.Step.{Step, next, refuse}
+use Rattle.formats.specs.declared.FailureLine.{FailureLine}
+use Rattle.formats.specs.FailureLine.{placesCrash, suitsStep, faultBy}
 
 -- Where in a ticket a line stands.
 pub data Stage : Type 0 where

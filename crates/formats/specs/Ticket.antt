@@ -5,9 +5,9 @@ use mathlib.Core.Bool.{cond}
 use lib.Dec.{ltb}
 use lib.ListN.{length}
 use Rattle.protocol.specs.Instance.{Instance}
-use Rattle.lines.specs.Line.{linesOf}
-use Rattle.ticket.specs.Reading.{Reading, accepted, refused, readFrom}
-use Rattle.kinds.specs.Accept.{Stage, header, proposals, failures, ended, accept}
+use Rattle.formats.specs.Line.{linesOf}
+use Rattle.formats.specs.Reading.{Reading, accepted, refused, readFrom}
+use Rattle.formats.specs.Accept.{Stage, header, proposals, failures, ended, accept}
 
 -- The most bytes that a ticket has.
 abbrev pub ticketLimit : ℕ

@@ -15,17 +15,17 @@ use Rattle.protocol.specs.Undecided.{isUndecided, anyUndecided}
 use Rattle.protocol.specs.Count.{dataAt, commitsAt, countIn, speaks, dataIn, commitsIn}
 use Rattle.protocol.specs.CrashCount.{isIdle, countsAsCrash, crashCount}
 use Rattle.protocol.specs.Run.{initial, withRound, runTo, runOf, crashesOf}
-use Rattle.lines.specs.Digit.{digitValue, isDigit}
-use Rattle.lines.specs.Line.{scan, closed, unclosed, linesFrom, linesOf}
-use Rattle.ticket.specs.Reading.{proceed, readFrom}
-use Rattle.checks.specs.FailureLine.{placesCrash, allBetween, suitsStep}
-use Rattle.kinds.specs.Accept.{isKind, acceptHeader, afterProposal, acceptProposal, failureLine, withCrash, acceptCrash, acceptFailure, accept}
-use Rattle.ticket.specs.Ticket.{atEnd, readTicket}
-use Rattle.result.specs.HexText.{digitOf, hexDigits, hexLine}
-use Rattle.result.specs.ResultLine.{endBytes, processLine, lastLine, joined, resultLines, resultText, resultSize, refusalLine}
-use Rattle.running.specs.Running.{resultIn, running, written, programWrites}
-use Rattle.cases.specs.Marked.{writes, says, MarkedCases}
-use Rattle.cases.specs.Table.{textOf, case1, case2, case3, case4, case5, case6, case7, case8, case9, case10, case10Passes, case11, case12, cases}
+use Rattle.formats.specs.Digit.{digitValue, isDigit}
+use Rattle.formats.specs.Line.{scan, closed, unclosed, linesFrom, linesOf}
+use Rattle.formats.specs.Reading.{proceed, readFrom}
+use Rattle.formats.specs.FailureLine.{placesCrash, allBetween, suitsStep}
+use Rattle.formats.specs.Accept.{isKind, acceptHeader, afterProposal, acceptProposal, failureLine, withCrash, acceptCrash, acceptFailure, accept}
+use Rattle.formats.specs.Ticket.{atEnd, readTicket}
+use Rattle.formats.specs.HexText.{digitOf, hexDigits, hexLine}
+use Rattle.formats.specs.ResultLine.{endBytes, processLine, lastLine, joined, resultLines, resultText, resultSize, refusalLine}
+use Rattle.formats.specs.Running.{resultIn, running, written, programWrites}
+use Rattle.formats.specs.Marked.{writes, says, MarkedCases}
+use Rattle.formats.specs.Table.{textOf, case1, case2, case3, case4, case5, case6, case7, case8, case9, case10, case10Passes, case11, case12, cases}
 
 -- For each case the program writes what the case says.
 pub marked-cases : MarkedCases

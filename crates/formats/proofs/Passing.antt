@@ -3,8 +3,8 @@ use mathlib.Core.Path.{_≡_, refl}
 use mathlib.Core.Bool.{Bool, true, false, cond, not}
 use Prim.Native.Nat.{ℕ}
 use native.Mathlib.Omega.{arith}
-use Rattle.kinds.specs.Step.{Step, next, refuse}
-use Rattle.ticket.specs.Reading.{Reading, accepted, refused, proceed}
+use Rattle.formats.specs.Step.{Step, next, refuse}
+use Rattle.formats.specs.Reading.{Reading, accepted, refused, proceed}
 
 -- A refusal is not the next stage, nor what a text is accepted with.
 pub refuse-next : {S : Type 0} (refusal : ℕ) (s : S) → refuse refusal ≡ next s → ⊥

@@ -1,0 +1,14 @@
+pub mod Digit
+pub mod Line
+pub mod FailureLine
+pub mod Step
+pub mod Accept
+pub mod Reading
+pub mod Ticket
+pub mod HexText
+pub mod ResultLine
+pub mod Running
+pub mod Settle
+pub mod Table
+pub mod Marked
+pub mod Worked
