@@ -4,5 +4,6 @@ pub mod Passing
 pub mod Keeping
 pub mod WellFormed
 pub mod RefusalRange
+pub mod ReadingCases
 pub mod Marked
 pub mod Worked

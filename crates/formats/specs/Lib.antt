@@ -10,5 +10,7 @@ pub mod ResultLine
 pub mod Running
 pub mod Settle
 pub mod Table
+pub mod FurtherRuns
+pub mod ReadingCases
 pub mod Marked
 pub mod Worked

@@ -1,9 +1,10 @@
 -- What the program writes for a marked case, and what document 01 says that it writes ('Worked runs').
-use mathlib.Core.List.{List, map}
+use mathlib.Core.List.{List, [], _∷_, _++_, map}
 use mathlib.Core.Path.{_≡_}
 use Prim.Native.Nat.{ℕ}
 use Rattle.formats.specs.Running.{programWrites}
 use Rattle.formats.specs.Table.{Case, textOf, cases}
+use Rattle.formats.specs.FurtherRuns.{furtherRuns}
 
 -- What the program writes for the case's ticket.
 unfoldable pub writes : Case → List ℕ
@@ -13,6 +14,9 @@ writes c = programWrites (textOf (c .ticket))
 unfoldable pub says : Case → List ℕ
 says c = textOf (c .output)
 
--- The claim: cases 1 to 12 are what the definitions give, from the ticket's text to the text written (document 01, 'Worked runs': "Cases 1 to 12 are the marked ones").
-unfoldable pub MarkedCases : Type 0
-MarkedCases = map writes cases ≡ map says cases
+-- The claim: cases 1 to 12, each of them, are what the definitions give, from the ticket's text to the text written
+-- (document 01, 'Worked runs': "Cases 1 to 12 are the marked ones"); and so are the further runs.
+pub record MarkedCases : Type 0 where
+  pub numbers : map (λ (c : Case). c .number) (cases ++ furtherRuns)
+      ≡ 1 ∷ 2 ∷ 3 ∷ 4 ∷ 5 ∷ 6 ∷ 7 ∷ 8 ∷ 9 ∷ 10 ∷ 10 ∷ 11 ∷ 12 ∷ 13 ∷ 14 ∷ 15 ∷ 16 ∷ []
+  pub written : map writes (cases ++ furtherRuns) ≡ map says (cases ++ furtherRuns)

@@ -1,25 +1,36 @@
 -- What document 01 says of a case besides its result: which rounds qualify as settling round ('The result', last paragraph), and the two bounds on messages ('A round', third paragraph).
-use mathlib.Core.List.{List, [], _∷_}
+use mathlib.Core.List.{List, [], _∷_, map}
 use mathlib.Core.Path.{_≡_}
-use mathlib.Core.Bool.{Bool, false, _&&_}
-use Prim.Native.Nat.{ℕ, _+_, _-_, _*_}
-use lib.Dec.{leb}
+use mathlib.Core.Bool.{cond}
+use Prim.Native.Nat.{ℕ, zero, suc, _+_, _-_, _*_}
 use Rattle.protocol.specs.Instance.{Instance}
 use Rattle.protocol.specs.Run.{runOf, crashesOf}
 use Rattle.protocol.specs.SpeakerBound.{boundBySpeakers}
 use Rattle.protocol.specs.Settling.{qualifies}
 use Rattle.formats.specs.Reading.{Reading, accepted, refused}
 use Rattle.formats.specs.Ticket.{readTicket}
-use Rattle.formats.specs.Table.{textOf, case1, case9}
+use Rattle.formats.specs.Table.{Case, textOf, case1, case2, case3, case4, case5, case6, case7, case8, case9}
+use Rattle.formats.specs.FurtherRuns.{furtherRuns}
 
--- Whether round r qualifies in the run of a ticket as read.
-unfoldable pub qualifiesIn : Reading Instance → ℕ → Bool
-qualifiesIn (accepted x) r = qualifies x r
-qualifiesIn (refused refusal line) r = false
+-- The rounds that qualify among those from r on, so many of them.
+unfoldable pub qualifyingFrom : Instance → ℕ → ℕ → List ℕ
+qualifyingFrom x zero r = []
+qualifyingFrom x (suc more) r =
+    let later = qualifyingFrom x more (suc r) in
+    cond (qualifies x r) (r ∷ later) later
 
--- The claim on case 1: the rounds that qualify are 1 and 2, and no other (document 01, 'The result': "In case 1 both 1 and 2 qualify").
-unfoldable pub Case1Settles : Type 0
-Case1Settles = (r : ℕ) → qualifiesIn (readTicket (textOf (case1 .ticket))) r ≡ (leb 1 r && leb r 2)
+-- The rounds from 0 to t + 2 that qualify in the run of a ticket as read; a run has at most t + 1.
+unfoldable pub qualifyingIn : Reading Instance → List ℕ
+qualifyingIn (accepted x) = qualifyingFrom x (x .resilience + 3) 0
+qualifyingIn (refused refusal line) = []
+
+-- The claim: the rounds that qualify in cases 1 to 9 and in the further runs (document 01, 'The result': "In case 1 both 1 and 2 qualify").
+unfoldable pub SettlingRounds : Type 0
+SettlingRounds =
+    map (λ (c : Case). qualifyingIn (readTicket (textOf (c .ticket))))
+    (case1 ∷ case2 ∷ case3 ∷ case4 ∷ case5 ∷ case6 ∷ case7 ∷ case8 ∷ case9 ∷ furtherRuns)
+    ≡ (1 ∷ 2 ∷ []) ∷ (1 ∷ []) ∷ (1 ∷ []) ∷ (2 ∷ []) ∷ (2 ∷ []) ∷ (3 ∷ []) ∷ (1 ∷ 2 ∷ []) ∷ (1 ∷ []) ∷ (1 ∷ 2 ∷ 3 ∷ 4 ∷ 5 ∷ 6 ∷ 7 ∷ [])
+    ∷ (1 ∷ 2 ∷ []) ∷ (1 ∷ 2 ∷ []) ∷ (2 ∷ []) ∷ (1 ∷ 2 ∷ []) ∷ []
 
 -- Twice document 001's bound of Theorem 2, (f + 1)(2n − 1 − 3f/2), for f crashes among n processes.
 abbrev pub twiceTheorem2 : (n f : ℕ) → ℕ
@@ -34,6 +45,7 @@ boundsOf (accepted x) =
     ∷ []
 boundsOf (refused refusal line) = []
 
--- The claim on case 9: of 10 processes 9 crash and 7 speak, and they send 63 messages, which is the bound (document 01, 'Worked runs': "f 9, speakers 7, data 42, commits 21, sum 63, the bound exactly; document 001 gives 55", by its Theorem 2).
+-- The claim on case 9: of 10 processes 9 crash and 7 speak, and they send 63 messages, which is the bound (document 01, 'Worked runs':
+-- "f 9, speakers 7, data 42, commits 21, sum 63, the bound exactly; document 001 gives 55", by its Theorem 2).
 unfoldable pub Case9MeetsBound : Type 0
 Case9MeetsBound = boundsOf (readTicket (textOf (case9 .ticket))) ≡ 10 ∷ 9 ∷ 7 ∷ 63 ∷ 63 ∷ (2 * 55) ∷ []
