@@ -11,7 +11,7 @@ use Rattle.running.specs.declared.RunAnswer.{RunAnswer}
 use Rattle.running.specs.declared.RunAnswer.the-variants.{Written, Refused}
 use Rattle.running.specs.declared.SettleAnswer.{SettleAnswer}
 use Rattle.running.specs.declared.SettleAnswer.the-variants.{Round, Unsettled}
-use Rattle.agreement.specs.Code.{refusalCode, runCode, settleCode, SettlesAs}
+use Rattle.formats.specs.Code.{refusalCode, runCode, settleCode, SettlesAs}
 
 module _ (answer : RunAnswer) where
   pub written-code : (a : Reading (List ℕ)) (size : ℕ) → answer ≡ answerOf a → answer ≡ Written size → size ≡ runCode a

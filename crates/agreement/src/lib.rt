@@ -6,7 +6,7 @@ ghost use Rattle.process.specs.Start.{startRefusal, startBytes};
 ghost use Rattle.process.specs.Speak.{speakAnswer, speakOutput};
 ghost use Rattle.process.specs.Close.{closeRefusal, closeState};
 ghost use Prim.Native.Nat.{_+_, _*_};
-ghost use Rattle.agreement.specs.Code.{refusalCode, runCode, SettlesAs};
+ghost use Rattle.formats.specs.Code.{refusalCode, runCode, SettlesAs};
 use running::RunAnswer;
 use running::SettleAnswer;
 

@@ -1,4 +1,3 @@
-pub mod LineReadBack
 pub mod ResultReadBack
 pub mod EndsFit
 pub mod Outputs

@@ -17,7 +17,7 @@ use Rattle.formats.specs.Line.{Line, bytes, noLine, linesOf}
 use Rattle.formats.specs.Accept.{isKind}
 use Rattle.formats.specs.ResultLine.{endBytes, processLine, lastLine, joined, resultLines}
 use Rattle.demands.specs.Said.{isProcessLine, endIn, endFrom, crashesFrom, lineAt, endSaid, crashesSaid}
-use Rattle.demands.proofs.LineReadBack.{line-read-back}
+use Rattle.formats.proofs.LineReadBack.{line-read-back}
 
 -- A process that ended so can be read back: it has decided or crashed, in a round of one byte, on a value of four.
 unfoldable pub Fits : State → Type 0

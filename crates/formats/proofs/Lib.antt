@@ -7,3 +7,8 @@ pub mod RefusalRange
 pub mod ReadingCases
 pub mod Marked
 pub mod Worked
+pub mod Digit
+pub mod LineSteps
+pub mod LineReadBack
+pub mod ResultLength
+pub mod CodesApart

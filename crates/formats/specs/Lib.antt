@@ -14,3 +14,5 @@ pub mod FurtherRuns
 pub mod ReadingCases
 pub mod Marked
 pub mod Worked
+pub mod Code
+pub mod CodesApart

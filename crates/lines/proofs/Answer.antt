@@ -18,7 +18,8 @@ use Rattle.lines.specs.declared.Cursor.{Cursor}
 use Rattle.lines.specs.declared.LineRead.the-variants.{Line as line, NoLine}
 use Rattle.lines.proofs.DigitCount.{count-digit, count-other, counted-digits, counted-stops}
 use Rattle.lines.proofs.Bytes.{length-bytesAt, holds-part, byteAt-small}
-use Rattle.lines.proofs.FirstLine.{lines-digit, lines-other, lines-closed, odd-at, closed-at}
+use Rattle.formats.proofs.LineSteps.{lines-digit, lines-other, lines-closed}
+use Rattle.lines.proofs.FirstLine.{odd-at, closed-at}
 
 -- The lines of a text are those from behind its first digits on, whatever those have made.
 Passed : Scan → List ℕ → Type 0

@@ -7,7 +7,7 @@ use lib.ListN.{length, getD, take, drop}
 use Rattle.general.proofs.Bytes.{Bytes}
 use Rattle.formats.specs.Digit.{digitValue}
 use Rattle.lines.specs.Bytes.{byteAt, bytesAt, HoldsBytes}
-use Rattle.lines.proofs.Digit.{digit-value}
+use Rattle.formats.proofs.Digit.{digit-value}
 
 module _ (text : List ℕ) where
   pub length-bytesAt : (place size : ℕ) → length (bytesAt text place size) ≡ size

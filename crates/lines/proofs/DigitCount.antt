@@ -9,7 +9,7 @@ use lib.ListN.{length, getD, drop, drop-of-length-le}
 use lib.Seq.{drop-cons}
 use Rattle.formats.specs.Digit.{digitValue, isDigit}
 use Rattle.lines.specs.DigitCount.{digitCount}
-use Rattle.lines.proofs.Digit.{value-digit, value-no-digit}
+use Rattle.formats.proofs.Digit.{value-digit, value-no-digit}
 
 pub count-digit : (c : ℕ) (l : List ℕ) → isDigit c ≡ true → digitCount (c ∷ l) ≡ suc (digitCount l)
 unfolding digitCount

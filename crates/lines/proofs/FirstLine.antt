@@ -12,28 +12,11 @@ use lib.Seq.{drop-cons, append-snoc}
 use Rattle.formats.specs.Digit.{digitValue, isDigit}
 use Rattle.formats.specs.Line.{bytes, Scan, even, odd, broken, scan, closed, linesFrom, linesOf}
 use Rattle.lines.specs.Bytes.{byteAt, bytesAt, HoldsBytes}
-use Rattle.lines.proofs.Digit.{digit-not-0A}
+use Rattle.formats.proofs.Digit.{digit-not-0A}
+use Rattle.formats.proofs.LineSteps.{lines-digit, lines-closed}
 use Rattle.lines.proofs.Bytes.{holds-front, holds-part}
 
 -- One character more.
-
-pub lines-digit : (s : Scan) (c : ℕ) (l : List ℕ) → isDigit c ≡ true → linesFrom s (c ∷ l) ≡ linesFrom (scan s c) l
-unfolding linesFrom
-lines-digit s c l h = rw (ne-eqb c 10 (digit-not-0A c h))
-
-scan-other : (s : Scan) (c : ℕ) → isDigit c ≡ false → scan s c ≡ broken
-unfolding scan
-scan-other (even b) c h = rw h
-scan-other (odd b high) c h = rw h
-scan-other broken c h = refl
-
-pub lines-other : (s : Scan) (c : ℕ) (l : List ℕ) → isDigit c ≡ false → (c ≡ 10 → ⊥) → linesFrom s (c ∷ l) ≡ linesFrom broken l
-unfolding linesFrom
-lines-other s c l h n = rw (ne-eqb c 10 n, scan-other s c h)
-
-pub lines-closed : (s : Scan) (c : ℕ) (l : List ℕ) → c ≡ 10 → linesFrom s (c ∷ l) ≡ closed s ∷ linesOf l
-unfolding linesFrom linesOf
-lines-closed s c l e = rw e
 
 scan-even : (b : List ℕ) (c : ℕ) → isDigit c ≡ true → scan (even b) c ≡ odd b (digitValue c)
 unfolding scan

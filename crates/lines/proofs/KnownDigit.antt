@@ -7,7 +7,7 @@ use lib.Dec.{eqb}
 use borrow.Author.Tests.{eqb-true}
 use Rattle.general.proofs.Tests.{everyBelow, every-below-at}
 use Rattle.formats.specs.Digit.{digitValue, isDigit}
-use Rattle.lines.proofs.Digit.{value-digit}
+use Rattle.formats.proofs.Digit.{value-digit}
 
 -- A letter has bit 6, and its low four bits count from 1.
 abbrev low : ℕ → ℕ

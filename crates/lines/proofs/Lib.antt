@@ -1,4 +1,3 @@
-pub mod Digit
 pub mod KnownDigit
 pub mod DigitCount
 pub mod Bytes

@@ -1,22 +1,13 @@
--- Laws of digits and lines of hexadecimal text: one for each branch of `digit`, and what one byte more does to a line that is being written. Assumes nothing.
+-- Laws of lines of hexadecimal text: what one byte more does to a line that is being written. Assumes nothing.
 use mathlib.Core.List.{List, [], _∷_, _++_}
 use mathlib.Core.Path.{_≡_, refl, sym, ap, ap₂, _∙_}
 use Prim.Native.Nat.{ℕ, suc, _+_, _*_, _/_, _%_, _≤_, _<_}
 use native.Mathlib.Omega.{arith}
 use native.Mathlib.Numerals.{add-one}
-use borrow.Author.Tests.{lt-ltb, le-ltb}
 use lib.ListN.{length, set, drop, getD, take, length-take, length-append}
 use lib.Seq.{take-suc, take-all}
 use Rattle.general.proofs.Overwrite.{set-seam}
 use Rattle.formats.specs.HexText.{digitOf, hexDigits, hexLine}
-
-pub digit-decimal : (v : ℕ) → v < 10 → digitOf v ≡ 48 + v
-unfolding digitOf
-digit-decimal v h = simp (lt-ltb _ _ h)
-
-pub digit-letter : (v : ℕ) → 10 ≤ v → digitOf v ≡ 55 + v
-unfolding digitOf
-digit-letter v h = simp (le-ltb _ _ h)
 
 length-hexDigits : (bs : List ℕ) → length (hexDigits bs) ≡ 2 * length bs
 unfolding hexDigits

@@ -16,6 +16,7 @@ use Rattle.protocol.specs.Round.{State, undecided, decided, crashed, stateOf}
 use Rattle.protocol.specs.Run.{Run}
 use Rattle.tables.specs.RunReading.{stateByEnd}
 use Rattle.formats.specs.HexText.{digitOf, hexDigits, hexLine}
+use Rattle.formats.proofs.ResultLength.{length-line, length-last, length-process-lines}
 use Rattle.formats.specs.ResultLine.{endBytes, processLine, lastLine, processLineSize, lastLineSize, joined, resultLines, resultSize, refusalLine}
 
 -- What `process_bytes` returns, by the process's end.
@@ -35,17 +36,6 @@ module _ (line : List ℕ) (p end round v : ℕ) where
 pub line-of : (line : List ℕ) (p : ℕ) (s s′ : State) → line ≡ 17 ∷ p ∷ endBytes s → s′ ≡ s → hexLine line ≡ processLine p s′
 unfolding processLine
 line-of line p s s′ e g = rw (e, g)
-
-pub length-line : (p : ℕ) (s : State) → length (processLine p s) ≡ processLineSize
-unfolding processLine endBytes bytesOf hexLine hexDigits
-length-line p (undecided v) = refl
-length-line p (decided round v) = refl
-length-line p (crashed round) = refl
-
-length-last : (run : Run) (f : ℕ)
-    → length (hexLine (18 ∷ run .rounds ∷ f ∷ run .speakers ∷ bytesOf 2 (run .dataSent) ++ bytesOf 2 (run .commitsSent))) ≡ lastLineSize
-unfolding bytesOf hexLine hexDigits
-length-last run f = refl
 
 -- A refusal, digit by digit.
 pub refusal-digits : (number line a b c d e f g h : ℕ) → a ≡ digitOf 1 → b ≡ digitOf 15 → c ≡ digitOf (number / 16) → d ≡ digitOf (number % 16)
@@ -132,14 +122,6 @@ module _ (states : List State) (before : List ℕ) where
 
 -- The last line, in the part that follows the others, makes the result whole.
 module _ (run : Run) (f n : ℕ) (all : length (run .states) ≡ n) where
-  length-process-lines : length (joined (mapFrom processLine 1 (run .states))) ≡ processLineSize * n
-  length-process-lines = ap length (sym (lines-all (run .states) n all)) ∙ length-lines (run .states) n (omega arith)
-
-  pub length-result : length (resultLines run f) ≡ resultSize n
-  unfolding resultLines lastLine resultSize
-  length-result =
-      length-append (joined (mapFrom processLine 1 (run .states))) _ ∙ ap₂ (λ (a b : ℕ). a + b) length-process-lines (length-last run f)
-
   pub result-written : (before out line back : List ℕ) → resultSize n ≤ length before
       → out ≡ joined (mapFrom processLine 1 (run .states)) ++ drop (processLineSize * n) before
       → line ≡ 18 ∷ run .rounds ∷ f ∷ run .speakers ∷ bytesOf 2 (run .dataSent) ++ bytesOf 2 (run .commitsSent)
@@ -147,5 +129,6 @@ module _ (run : Run) (f n : ℕ) (all : length (run .states) ≡ n) where
       → putMid (processLineSize * n) (length out - processLineSize * n) out back ≡ resultLines run f ++ drop (resultSize n) before
   unfolding resultLines lastLine resultSize
   result-written before out line back fits o l b =
+      let stations : length (joined (mapFrom processLine 1 (run .states))) ≡ processLineSize * n = length-process-lines (run .states) 1 ∙ ap (λ (k : ℕ). processLineSize * k) all in
       rw (b, o, l)
-      (put-part (joined (mapFrom processLine 1 (run .states))) _ before (processLineSize * n) lastLineSize length-process-lines (length-last run f) (omega arith))
+      (put-part (joined (mapFrom processLine 1 (run .states))) _ before (processLineSize * n) lastLineSize stations (length-last run f) (omega arith))

@@ -25,7 +25,7 @@ use Rattle.ticket.specs.declared.Answer.{Answer}
 use Rattle.ticket.specs.declared.TicketRead.{TicketRead}
 use Rattle.formats.proofs.WellFormed.{accepted-well-formed}
 use Rattle.formats.specs.ResultLine.{resultText, resultLines, resultSize}
-use Rattle.result.proofs.ResultLine.{length-result}
+use Rattle.formats.proofs.ResultLength.{length-text}
 use Rattle.formats.specs.Running.{resultIn, running, bufferAfter}
 use Rattle.formats.specs.Settle.{Settles}
 use Rattle.running.specs.Answer.{answerOf, Ran, settlingOf}
@@ -78,10 +78,6 @@ module _ (text before : List ℕ) where
     result-is run f same counted =
         ap₂ resultLines same (counted ∙ ap (λ (r : Run). crashCount (instanceOf table .pattern) (r .states)) same)
 
-    length-text : length (resultText (instanceOf table)) ≡ resultSize (table .n)
-    unfolding resultText instanceOf
-    length-text = length-result (runOf (instanceOf table)) (crashesOf (instanceOf table)) (table .n) (states-at-end (instanceOf table) formed)
-
     pub ran-written : (size : ℕ) → size ≡ resultSize (table .n) → (run : RunTable) (f : ℕ) (after : List ℕ) → runFrom (table .n) run ≡ runOf (instanceOf table)
         → f ≡ crashCount (instanceOf table .pattern) (statesIn (table .n) run) → size ≤ length before
         → after ≡ resultLines (runFrom (table .n) run) f ++ drop (resultSize (table .n)) before → Ran text before after (Written size)
@@ -89,9 +85,9 @@ module _ (text before : List ℕ) where
     ran-written size sized run f after same counted fits stored =
         let ran = running-fits text (length before) (instanceOf table) read (omega arith) in
         record {
-          answered = ap Written (sized ∙ sym length-text) ∙ sym (ap answerOf ran);
+          answered = ap Written (sized ∙ sym (length-text (instanceOf table) formed)) ∙ sym (ap answerOf ran);
           buffer =
-              stored ∙ ap₂ (λ (l : List ℕ) (k : ℕ). l ++ drop k before) (result-is run f same counted) (sym length-text)
+              stored ∙ ap₂ (λ (l : List ℕ) (k : ℕ). l ++ drop k before) (result-is run f same counted) (sym (length-text (instanceOf table) formed))
               ∙ sym (ap (λ (a : Reading (List ℕ)). bufferAfter a before) ran);
         }
 
@@ -121,7 +117,7 @@ module _ (text before after : List ℕ) (answer : RunAnswer) (size : ℕ) (ran :
       let result = running-fits text (length before) x read room in
       let formed = accepted-well-formed text x read in
       let same : size ≡ length (resultText x) = cc (ran .answered, ap answerOf result) in
-      omega (arith, length-result (runOf x) (crashesOf x) (x .processes) (states-at-end x formed))
+      omega (arith, length-text x formed)
 
   by-reading : (a : Reading Instance) → readTicket text ≡ a → size ≤ length before
   unfolding answerOf

@@ -2,7 +2,7 @@
 use borrow.Author.Needs.{needs}
 use native.Mathlib.Omega.{arith}
 use mathlib.Core.Path.{sym}
-use Rattle.lines.proofs.Digit.{value-below, value-figure, value-between, value-letter, value-above}
+use Rattle.formats.proofs.Digit.{value-below, value-figure, value-between, value-letter, value-above}
 use Rattle.lines.proofs.digit_value.Statement.{statement}
 use Rattle.lines.proofs.digit_value.Tie as tie
 

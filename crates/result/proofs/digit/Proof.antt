@@ -2,7 +2,7 @@
 use borrow.Author.Needs.{needs}
 use native.Mathlib.Omega.{arith}
 use mathlib.Core.Path.{sym}
-use Rattle.result.proofs.HexText.{digit-decimal, digit-letter}
+use Rattle.formats.proofs.Digit.{digit-decimal, digit-letter}
 use Rattle.result.proofs.digit.Statement.{statement}
 use Rattle.result.proofs.digit.Tie as tie
 

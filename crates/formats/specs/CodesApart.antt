@@ -5,11 +5,11 @@ use mathlib.Core.Bool.{true}
 use Prim.Native.Nat.{ℕ, _/_, _%_, _≤_, _<_}
 use Rattle.protocol.specs.Instance.{Instance}
 use Rattle.protocol.specs.Settling.{qualifies}
 use Rattle.formats.specs.Reading.{Reading, accepted, refused}
 use Rattle.formats.specs.Ticket.{readTicket}
 use Rattle.formats.specs.ResultLine.{resultText, resultSize}
 use Rattle.formats.specs.Running.{running}
-use Rattle.agreement.specs.Code.{refusalsFrom, runCode, SettlesAs}
+use Rattle.formats.specs.Code.{refusalsFrom, runCode, SettlesAs}
 
 -- The code of a refusal: its number, from 1 to `most`, and its line are read off by division.
 pub record TellsRefusal (most number line code : ℕ) : Type 0 where

@@ -8,37 +8,31 @@ use borrow.Author.Tests.{leb-true}
 use lib.Dec.{ltb}
 use lib.ListN.{length}
 use Rattle.protocol.specs.Instance.{Instance}
-use Rattle.protocol.specs.Run.{runOf, crashesOf}
+use Rattle.protocol.specs.Run.{runOf}
 use Rattle.protocol.specs.Settling.{qualifies}
 use Rattle.protocol.proofs.Counts.{counts-fit}
-use Rattle.protocol.proofs.Ends.{states-at-end}
 use Rattle.formats.specs.Reading.{Reading, accepted, refused}
 use Rattle.formats.specs.Ticket.{readTicket}
 use Rattle.general.proofs.Tests.{both}
 use Rattle.formats.proofs.WellFormed.{accepted-well-formed}
 use Rattle.formats.proofs.RefusalRange.{RefusedBy, lastRefused, ticket-refused}
 use Rattle.formats.specs.ResultLine.{resultText, resultSize}
-use Rattle.result.proofs.ResultLine.{length-result}
+use Rattle.formats.proofs.ResultLength.{length-text}
 use Rattle.formats.specs.Running.{resultIn, running}
 use Rattle.formats.specs.Settle.{Settles}
-use Rattle.agreement.specs.Code.{refusalsFrom, refusalCode, runCode, settleCode, SettlesAs}
-use Rattle.agreement.specs.CodesApart.{TellsRefusal, TellsSize, TellsRound, TellsRun, TellsSettling, CodesApart}
+use Rattle.formats.specs.Code.{refusalsFrom, refusalCode, runCode, settleCode, SettlesAs}
+use Rattle.formats.specs.CodesApart.{TellsRefusal, TellsSize, TellsRound, TellsRun, TellsSettling, CodesApart}
 
 refusal-told : (most number line : ℕ) → 1 ≤ number → number ≤ most → line < refusalsFrom → TellsRefusal most number line (refusalCode number line)
 refusal-told most number line some few short =
     record { isRefusal = omega arith; readsNumber = omega arith; readsLine = omega arith; first = some; last = few }
-
--- The size of a result.
-result-length : (text : List ℕ) (x : Instance) → readTicket text ≡ accepted x → length (resultText x) ≡ resultSize (x .processes)
-unfolding resultText
-result-length text x e = length-result (runOf x) (crashesOf x) (x .processes) (states-at-end x (accepted-well-formed text x e))
 
 module _ (text : List ℕ) (room : ℕ) where
   result-told : (x : Instance) → readTicket text ≡ accepted x → running text room ≡ accepted (resultText x) → TellsSize text room (length (resultText x))
   unfolding resultSize
   result-told x e ran =
       let formed = accepted-well-formed text x e in
-      let size = result-length text x e in
+      let size = length-text x formed in
       record { instance = x; read = e; ran = ran; size = size; least = omega (arith, size, formed .some-process); most = omega (arith, size, formed .at-most-64) }
 
   accepted-told : (x : Instance) (short : Bool) → readTicket text ≡ accepted x → ltb room (resultSize (x .processes)) ≡ short

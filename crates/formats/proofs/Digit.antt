@@ -1,10 +1,11 @@
 -- Laws of a digit's value, one for each range of bytes, and of what a digit is. The other files know a digit by the last four alone. Assumes nothing.
 use mathlib.Core.Path.{_≡_}
 use mathlib.Core.Bool.{true, false}
-use Prim.Native.Nat.{ℕ, _-_, _≤_, _<_}
+use Prim.Native.Nat.{ℕ, _+_, _-_, _≤_, _<_}
 use native.Mathlib.Omega.{arith}
-use borrow.Author.Tests.{le-leb, lt-leb, leb-true}
+use borrow.Author.Tests.{le-leb, lt-leb, leb-true, lt-ltb, le-ltb}
 use Rattle.formats.specs.Digit.{digitValue, isDigit, noDigit}
+use Rattle.formats.specs.HexText.{digitOf}
 
 pub value-below : (c : ℕ) → c < 48 → digitValue c ≡ noDigit
 unfolding digitValue
@@ -56,3 +57,13 @@ digit-not-0A c h e =
     let t : isDigit 10 ≡ true = rw e at h in
     let z : _≡_ {A = ℕ} 0 1 = cc in
     omega arith
+
+-- The digit of a value.
+
+pub digit-decimal : (v : ℕ) → v < 10 → digitOf v ≡ 48 + v
+unfolding digitOf
+digit-decimal v h = simp (lt-ltb _ _ h)
+
+pub digit-letter : (v : ℕ) → 10 ≤ v → digitOf v ≡ 55 + v
+unfolding digitOf
+digit-letter v h = simp (le-ltb _ _ h)
