@@ -1,18 +1,16 @@
 -- The first line of a text, by its digits and what follows them. Assumes nothing.
 use mathlib.Core.List.{List, [], _∷_, _++_, append-nil}
-use mathlib.Core.Path.{_≡_, refl, _∙_}
-use mathlib.Core.Bool.{true, false}
+use mathlib.Core.Path.{_≡_, _∙_}
+use mathlib.Core.Bool.{true}
 use Prim.Native.Nat.{ℕ, zero, suc, _+_, _*_, _<_}
 use native.Mathlib.Nat.{add-zero}
 use native.Mathlib.Omega.{arith}
 use native.Mathlib.Numerals.{add-one}
-use borrow.Author.Tests.{ne-eqb}
 use lib.ListN.{length, getD, drop}
 use lib.Seq.{drop-cons, append-snoc}
 use Rattle.formats.specs.Digit.{digitValue, isDigit}
-use Rattle.formats.specs.Line.{bytes, Scan, even, odd, broken, scan, closed, linesFrom, linesOf}
+use Rattle.formats.specs.Line.{bytes, Scan, even, odd, scan, closed, linesFrom, linesOf}
 use Rattle.lines.specs.Bytes.{byteAt, bytesAt, HoldsBytes}
-use Rattle.formats.proofs.Digit.{digit-not-0A}
 use Rattle.formats.proofs.LineSteps.{lines-digit, lines-closed}
 use Rattle.lines.proofs.Bytes.{holds-front, holds-part}
 

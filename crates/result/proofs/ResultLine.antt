@@ -12,7 +12,7 @@ use Rattle.general.specs.BigEndian.{bytesOf}
 use Rattle.general.specs.Indexed.{mapFrom}
 use Rattle.general.proofs.Indexed.{mapFrom-snoc}
 use Rattle.general.proofs.Overwrite.{put-part}
-use Rattle.protocol.specs.Round.{State, undecided, decided, crashed, stateOf}
+use Rattle.protocol.specs.Round.{State, crashed, stateOf}
 use Rattle.protocol.specs.Run.{Run}
 use Rattle.tables.specs.RunReading.{stateByEnd}
 use Rattle.formats.specs.HexText.{digitOf, hexDigits, hexLine}

@@ -12,7 +12,6 @@ use Rattle.protocol.specs.CrashCount.{crashCount}
 use Rattle.protocol.specs.Run.{Run, runOf, crashesOf}
 use Rattle.protocol.specs.WellFormed.{WellFormed}
 use Rattle.protocol.specs.Settling.{qualifies}
-use Rattle.protocol.proofs.Ends.{states-at-end}
 use Rattle.protocol.proofs.Settled.{settled-at-last}
 use Rattle.tables.specs.InstanceReading.{instanceOf}
 use Rattle.tables.specs.declared.InstanceTable.{InstanceTable}
