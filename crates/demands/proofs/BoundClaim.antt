@@ -1,8 +1,24 @@
--- The bound by speakers of every accepted text. Assumes nothing.
+-- The bound by speakers of every accepted text, and of the last line of every result. Assumes nothing.
+use mathlib.Core.List.{List}
+use mathlib.Core.Option.{some}
+use mathlib.Core.Path.{_≡_}
+use Prim.Native.Nat.{ℕ}
+use Rattle.protocol.specs.Instance.{Instance}
 use Rattle.protocol.proofs.Bound.{speaker-bound}
 use Rattle.formats.proofs.WellFormed.{accepted-well-formed}
-use Rattle.demands.specs.BoundClaim.{BoundClaim}
+use Rattle.demands.specs.Said.{Counts, countsSaid, countsOf}
+use Rattle.demands.specs.Written.{Wrote}
+use Rattle.demands.specs.BoundClaim.{CountsBounded, BoundClaim}
+use Rattle.demands.proofs.Demand2.{demand-2}
+
+counts-bounded : (text : List ℕ) (x : Instance) (out : List ℕ) (counts : Counts) → Wrote text x out → countsSaid out (x .processes) ≡ some counts
+    → CountsBounded (x .processes) counts
+unfolding countsOf
+counts-bounded text x out counts wrote said =
+    let bound = speaker-bound x (accepted-well-formed text x (wrote .read)) in
+    let run = demand-2 .result text x out wrote .last in
+    let same : counts ≡ countsOf x = cc in
+    rw same (record { speakers = bound .speakers; messages = bound .messages })
 
 pub bound-claim : BoundClaim
-unfolding BoundClaim
-bound-claim text x read = speaker-bound x (accepted-well-formed text x read)
+bound-claim = record { rounds = λ text x read. speaker-bound x (accepted-well-formed text x read); said = counts-bounded }

@@ -1,17 +1,22 @@
 -- Demand 3: of the rounds of every accepted text, and of the bytes of every result that running writes. Assumes nothing.
-use mathlib.Core.Path.{refl, sym, ap, _∙_}
+use mathlib.Core.List.{List}
+use mathlib.Core.Path.{_≡_, refl, sym, ap, _∙_}
+use Prim.Native.Nat.{ℕ, suc}
+use Rattle.protocol.specs.Instance.{Instance}
+use Rattle.protocol.specs.Round.{State}
 use Rattle.protocol.specs.Run.{crashesOf}
-use Rattle.protocol.specs.Consensus.{CountsCrashes, endOf, latestOf}
+use Rattle.protocol.specs.Consensus.{UniformConsensus, CountsCrashes, endOf, latestOf}
 use Rattle.protocol.specs.CrashCount.{crashCount, crashedCount}
 use Rattle.protocol.proofs.CrashCount.{crashes-are-crashed}
 use Rattle.protocol.proofs.Consensus.{uniform-consensus}
 use Rattle.protocol.proofs.Pair.{no-later}
 use Rattle.protocol.proofs.SameEnds.{SameEnds, consensus-same, no-later-same, ends-in-order}
 use Rattle.formats.proofs.WellFormed.{accepted-well-formed}
-use Rattle.demands.specs.Said.{endSaid}
+use Rattle.demands.specs.Said.{Counts, Says, countsOf}
+use Rattle.demands.specs.Written.{Wrote}
 use Rattle.demands.specs.Demand3.{RoundsClaim, OutputClaim, Demand3}
 use Rattle.demands.proofs.PairedTexts.{texts-paired}
-use Rattle.demands.proofs.Outputs.{written-accepted, ends-said, f-said}
+use Rattle.demands.proofs.Demand2.{demand-2}
 
 rounds-claim : RoundsClaim
 unfolding CountsCrashes crashesOf SameEnds
@@ -25,21 +30,38 @@ rounds-claim =
       noLater = λ a b x y read read′ paired. no-later x y (accepted-well-formed a x read) (accepted-well-formed b y read′) (texts-paired a b x y read read′ paired);
     }
 
+-- The bytes of a result say one thing: what the rounds give.
+module _ (text : List ℕ) (x : Instance) (out : List ℕ) (ends : ℕ → State) (counts : Counts) (wrote : Wrote text x out) (says : Says x out ends counts) where
+  ends-said : SameEnds x (endOf x) ends
+  unfolding SameEnds
+  ends-said p process =
+      let run = demand-2 .result text x out wrote .states p process in
+      let own = says .states p process in
+      cc
+
+  f-said : counts .crashes ≡ crashesOf x
+  unfolding countsOf
+  f-said =
+      let run = demand-2 .result text x out wrote .last in
+      let own = says .last in
+      let same : counts ≡ countsOf x = cc in
+      ap (λ (c : Counts). c .crashes) same
+
+  consensus-said : UniformConsensus (suc (counts .crashes)) x ends
+  unfolding latestOf
+  consensus-said = rw f-said (consensus-same x (endOf x) ends ends-said (latestOf x) (rounds-claim .consensus text x (wrote .read)))
+
+  crashes-said : CountsCrashes (counts .crashes) x ends
+  unfolding CountsCrashes crashesOf
+  crashes-said = f-said ∙ ap (crashCount (x .pattern)) (sym (ends-in-order x (accepted-well-formed text x (wrote .read)) ends ends-said))
+
 output-claim : OutputClaim
-unfolding CountsCrashes crashesOf latestOf SameEnds
 output-claim =
     record {
-      accepts = written-accepted;
-      said = λ text x out wrote p process. sym (ends-said text x out wrote p process);
-      saidCrashes = f-said;
-      consensus = λ text x out wrote.
-          let same = ends-said text x out wrote in
-          rw (f-said text x out wrote) (consensus-same x (endOf x) (endSaid out) same (latestOf x) (rounds-claim .consensus text x (wrote .read)));
-      crashes = λ text x out wrote.
-          let formed = accepted-well-formed text x (wrote .read) in
-          f-said text x out wrote ∙ ap (crashCount (x .pattern)) (sym (ends-in-order x formed (endSaid out) (ends-said text x out wrote)));
-      noLater = λ a b x y out out′ wrote wrote′ paired.
-          no-later-same x y (endOf x) (endSaid out) (endOf y) (endSaid out′) (ends-said a x out wrote) (ends-said b y out′ wrote′)
+      consensus = consensus-said;
+      crashes = crashes-said;
+      noLater = λ a b x y out out′ ends ends′ counts counts′ wrote wrote′ says says′ paired.
+          no-later-same x y (endOf x) ends (endOf y) ends′ (ends-said a x out ends counts wrote says) (ends-said b y out′ ends′ counts′ wrote′ says′)
           (rounds-claim .noLater a b x y (wrote .read) (wrote′ .read) paired);
     }
 

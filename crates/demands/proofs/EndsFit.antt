@@ -1,6 +1,6 @@
 -- The ends and the counts of a run fit the bytes that a result has for them, so the result says what they are. For well-formed instances. Assumes nothing else.
 use mathlib.Core.List.{List, _++_}
-use mathlib.Core.Path.{_≡_, refl, sym}
+use mathlib.Core.Path.{_≡_, refl}
 use Prim.Native.Nat.{ℕ, suc, _-_, _^_, _≤_, _<_}
 use native.Mathlib.Omega.{arith}
 use Rattle.protocol.specs.Instance.{Instance, crashes, proposalOf}
@@ -13,10 +13,9 @@ use Rattle.protocol.proofs.Counts.{counts-fit}
 use Rattle.protocol.proofs.Ends.{states-at-end}
 use Rattle.protocol.proofs.Consensus.{uniform-consensus}
 use Rattle.protocol.proofs.Settled.{none-ends-undecided}
-use Rattle.protocol.proofs.SameEnds.{SameEnds}
 use Rattle.formats.specs.ResultLine.{resultText}
-use Rattle.demands.specs.Said.{endSaid, crashesSaid}
-use Rattle.demands.proofs.ResultReadBack.{Fits, RunFits, end-said, crashes-said}
+use Rattle.demands.specs.Said.{Says, countsOf}
+use Rattle.demands.proofs.ResultReadBack.{Fits, RunFits, end-said, counts-said}
 
 module _ (x : Instance) (formed : WellFormed x) where
   consensus : UniformConsensus (latestOf x) x (endOf x)
@@ -59,13 +58,15 @@ module _ (x : Instance) (formed : WellFormed x) where
         rounds = omega arith;
         crashes = omega arith;
         speakers = omega arith;
+        dataSent = fit .dataSent;
+        commitsSent = fit .commitsSent;
       }
 
-  -- So an output that begins with the result says how every process ended, and f.
-  pub ends-in-result : (rest : List ℕ) → SameEnds x (endOf x) (endSaid (resultText x ++ rest))
-  unfolding SameEnds endOf resultText
-  ends-in-result rest p process = sym (end-said (runOf x) (crashesOf x) (x .processes) run-fits rest p (process .first) (process .last))
-
-  pub f-in-result : (rest : List ℕ) → crashesSaid (resultText x ++ rest) (x .processes) ≡ crashesOf x
-  unfolding resultText
-  f-in-result rest = crashes-said (runOf x) (crashesOf x) (x .processes) run-fits rest
+  -- So an output that begins with the result says how every process ended, and what was counted.
+  pub result-says : (rest : List ℕ) → Says x (resultText x ++ rest) (endOf x) (countsOf x)
+  unfolding endOf resultText countsOf
+  result-says rest =
+      record {
+        states = λ p process. end-said (runOf x) (crashesOf x) (x .processes) run-fits rest p (process .first) (process .last);
+        last = counts-said (runOf x) (crashesOf x) (x .processes) run-fits rest;
+      }

@@ -1,9 +1,13 @@
 pub mod ResultReadBack
 pub mod EndsFit
-pub mod Outputs
+pub mod Answered
+pub mod Written
 pub mod PairedFaults
 pub mod AcceptedLine
 pub mod PairedTexts
+pub mod PartsClaim
+pub mod Demand1
+pub mod Demand2
 pub mod Demand3
 pub mod BoundClaim
-pub mod PartsClaim
+pub mod Witnesses

@@ -1,5 +1,6 @@
--- The result of a run read back from the front of an output: the end of each process, and f. Assumes nothing.
+-- The result of a run read back from the front of an output: the end of each process, and the counts. Assumes nothing.
 use mathlib.Core.List.{List, [], _∷_, _++_, append-assoc}
+use mathlib.Core.Option.{some}
 use mathlib.Core.Path.{_≡_, refl, ap, _∙_}
 use Prim.Native.Nat.{ℕ, zero, suc, _+_, _-_, _^_, _≤_, _<_}
 use native.Mathlib.Omega.{arith}
@@ -16,7 +17,7 @@ use Rattle.protocol.specs.Run.{Run}
 use Rattle.formats.specs.Line.{Line, bytes, noLine, linesOf}
 use Rattle.formats.specs.Accept.{isKind}
 use Rattle.formats.specs.ResultLine.{endBytes, processLine, lastLine, joined, resultLines}
-use Rattle.demands.specs.Said.{isProcessLine, endIn, endFrom, crashesFrom, lineAt, endSaid, crashesSaid}
+use Rattle.demands.specs.Said.{isProcessLine, endIn, endFrom, countsIn, countsFrom, lineAt, endSaid, countsSaid}
 use Rattle.formats.proofs.LineReadBack.{line-read-back}
 
 -- A process that ended so can be read back: it has decided or crashed, in a round of one byte, on a value of four.
@@ -47,10 +48,10 @@ process-line-bytes p (decided r v) h fits = four-then 0x11 p 1 r (bytesOf 4 v) (
 process-line-bytes p (crashed r) h fits = four-then 0x11 p 2 r (bytesOf 4 0) (omega arith) h (omega arith) fits (bytes-of-number 4 0)
 
 -- What the line says.
-end-read-back : (p : ℕ) (s : State) → Fits s → endIn p (lineBytes p s) ≡ s
+end-read-back : (p : ℕ) (s : State) → Fits s → endIn p (lineBytes p s) ≡ some s
 unfolding Fits endIn isProcessLine isKind endBytes bytesOf
 end-read-back p (undecided v) fits = absurd fits
-end-read-back p (decided r v) fits = rw (eq-eqb p p refl) (ap (decided r) (number-bytes 4 v (omega arith)))
+end-read-back p (decided r v) fits = rw (eq-eqb p p refl) (ap (λ (w : ℕ). some (decided r w)) (number-bytes 4 v (omega arith)))
 end-read-back p (crashed r) fits = rw (eq-eqb p p refl, number-bytes 4 0 (omega arith))
 
 -- The lines of processes, of which the first is process p.
@@ -72,6 +73,8 @@ pub record RunFits (run : Run) (f n : ℕ) : Type 0 where
   pub rounds : run .rounds < 256
   pub crashes : f < 256
   pub speakers : run .speakers < 256
+  pub dataSent : run .dataSent < 65536
+  pub commitsSent : run .commitsSent < 65536
 
 module _ (run : Run) (f n : ℕ) (fits : RunFits run f n) where
   abbrev countBytes : List ℕ
@@ -98,7 +101,7 @@ module _ (run : Run) (f n : ℕ) (fits : RunFits run f n) where
       ∙ ap (λ (lines : List Line). mapFrom processLineOf 1 (run .states) ++ lines) (last-read-back rest))
 
   -- How a process ended, by the result.
-  pub end-said : (rest : List ℕ) (p : ℕ) → 1 ≤ p → p ≤ n → endSaid (resultLines run f ++ rest) p ≡ stateOf (run .states) p
+  pub end-said : (rest : List ℕ) (p : ℕ) → 1 ≤ p → p ≤ n → endSaid (resultLines run f ++ rest) p ≡ some (stateOf (run .states) p)
   unfolding endSaid lineAt endFrom stateOf
   end-said rest p first last =
       let rows : List Line = mapFrom processLineOf 1 (run .states) in
@@ -108,10 +111,16 @@ module _ (run : Run) (f n : ℕ) (fits : RunFits run f n) where
       ∙ ap (endFrom p) (mapFrom-at processLineOf (run .states) p (crashed 0) noLine first (omega arith))
       ∙ end-read-back p _ (fits .states (p - 1) (omega arith))
 
-  -- f, by the result.
-  pub crashes-said : (rest : List ℕ) → crashesSaid (resultLines run f ++ rest) n ≡ f
-  unfolding crashesSaid lineAt crashesFrom isKind bytesOf
-  crashes-said rest =
+  -- The counts, by the result.
+  counts-read-back : countsIn lastBytes ≡ some (record { rounds = run .rounds; crashes = f; speakers = run .speakers; dataSent = run .dataSent; commitsSent = run .commitsSent })
+  unfolding countsIn isKind bytesOf
+  counts-read-back = rw (number-bytes 2 (run .dataSent) (fits .dataSent), number-bytes 2 (run .commitsSent) (fits .commitsSent))
+
+  pub counts-said : (rest : List ℕ) → countsSaid (resultLines run f ++ rest) n
+      ≡ some (record { rounds = run .rounds; crashes = f; speakers = run .speakers; dataSent = run .dataSent; commitsSent = run .commitsSent })
+  unfolding countsSaid lineAt countsFrom
+  counts-said rest =
       let rows : List Line = mapFrom processLineOf 1 (run .states) in
-      ap (λ (lines : List Line). crashesFrom (getD lines n noLine)) (result-read-back rest)
-      ∙ ap crashesFrom (getD-at rows (bytes lastBytes) (linesOf rest) noLine n (length-mapFrom processLineOf 1 (run .states) ∙ fits .all-end))
+      ap (λ (lines : List Line). countsFrom (getD lines n noLine)) (result-read-back rest)
+      ∙ ap countsFrom (getD-at rows (bytes lastBytes) (linesOf rest) noLine n (length-mapFrom processLineOf 1 (run .states) ∙ fits .all-end))
+      ∙ counts-read-back

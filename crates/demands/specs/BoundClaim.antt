@@ -1,11 +1,21 @@
--- The bound by speakers of every accepted text (document 01, 'A round', third paragraph). It is no part of demand 3.
+-- The bound by speakers of every accepted text, and of the last line of every result (document 01, 'A round', third paragraph). It is no part of demand 3.
 use mathlib.Core.List.{List}
+use mathlib.Core.Option.{some}
 use mathlib.Core.Path.{_≡_}
-use Prim.Native.Nat.{ℕ}
+use Prim.Native.Nat.{ℕ, suc, _+_, _≤_}
 use Rattle.protocol.specs.Instance.{Instance}
-use Rattle.protocol.specs.SpeakerBound.{SpeakerBound}
+use Rattle.protocol.specs.SpeakerBound.{SpeakerBound, boundBySpeakers}
 use Rattle.formats.specs.Reading.{accepted}
 use Rattle.formats.specs.Ticket.{readTicket}
+use Rattle.demands.specs.Said.{Counts, countsSaid}
+use Rattle.demands.specs.Written.{Wrote}
 
-unfoldable pub BoundClaim : Type 0
-BoundClaim = (text : List ℕ) (x : Instance) → readTicket text ≡ accepted x → SpeakerBound x
+-- Of the counts of a last line, among n processes.
+pub record CountsBounded (n : ℕ) (counts : Counts) : Type 0 where
+  pub speakers : counts .speakers ≤ suc (counts .crashes)
+  pub messages : counts .dataSent + counts .commitsSent ≤ boundBySpeakers n (counts .speakers)
+
+pub record BoundClaim : Type 0 where
+  pub rounds : (text : List ℕ) (x : Instance) → readTicket text ≡ accepted x → SpeakerBound x
+  pub said : (text : List ℕ) (x : Instance) (out : List ℕ) (counts : Counts) → Wrote text x out → countsSaid out (x .processes) ≡ some counts
+      → CountsBounded (x .processes) counts

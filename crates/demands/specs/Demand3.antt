@@ -4,14 +4,14 @@ use mathlib.Core.List.{List}
 use mathlib.Core.Path.{_≡_}
 use Prim.Native.Nat.{ℕ, suc}
 use Rattle.protocol.specs.Instance.{Instance}
+use Rattle.protocol.specs.Round.{State}
 use Rattle.protocol.specs.Run.{crashesOf}
 use Rattle.protocol.specs.CrashCount.{crashedCount}
-use Rattle.protocol.specs.Consensus.{IsProcess, UniformConsensus, CountsCrashes, NoLater, endsOf, endOf, latestOf}
+use Rattle.protocol.specs.Consensus.{UniformConsensus, CountsCrashes, NoLater, endsOf, endOf, latestOf}
 use Rattle.formats.specs.Reading.{accepted}
 use Rattle.formats.specs.Ticket.{readTicket}
-use Rattle.running.specs.Answer.{Ran}
-use Rattle.running.specs.declared.RunAnswer.the-variants.{Written}
-use Rattle.demands.specs.Said.{endSaid, crashesSaid}
+use Rattle.demands.specs.Said.{Counts, Says}
+use Rattle.demands.specs.Written.{Wrote}
 use Rattle.demands.specs.PairedTexts.{PairedTexts}
 
 -- Of the rounds of every accepted text, and of every two that are paired line by line.
@@ -22,22 +22,14 @@ pub record RoundsClaim : Type 0 where
   pub crashed : (text : List ℕ) (x : Instance) → readTicket text ≡ accepted x → crashesOf x ≡ crashedCount (endsOf x (endOf x))
   pub noLater : (a b : List ℕ) (x y : Instance) → readTicket a ≡ accepted x → readTicket b ≡ accepted y → PairedTexts a b → NoLater x (endOf x) y (endOf y)
 
--- Running an accepted text has written a result into a buffer, which holds `out` afterwards.
-pub record Wrote (text : List ℕ) (x : Instance) (out : List ℕ) : Type 0 where
-  pub before : List ℕ
-  pub size : ℕ
-  pub read : readTicket text ≡ accepted x
-  pub ran : Ran text before out (Written size)
-
--- Of the bytes of every result that running writes, and of every two whose texts are paired. It writes one for accepted texts alone.
+-- Of the ends and the f that the bytes of a result say, wherever running writes one; and of every two results whose texts are paired.
 pub record OutputClaim : Type 0 where
-  pub accepts : (text before out : List ℕ) (size : ℕ) → Ran text before out (Written size) → (x : Instance) × (readTicket text ≡ accepted x)
-  -- the bytes say how each process ends in the rounds, and f
-  pub said : (text : List ℕ) (x : Instance) (out : List ℕ) → Wrote text x out → (p : ℕ) → IsProcess x p → endSaid out p ≡ endOf x p
-  pub saidCrashes : (text : List ℕ) (x : Instance) (out : List ℕ) → Wrote text x out → crashesSaid out (x .processes) ≡ crashesOf x
-  pub consensus : (text : List ℕ) (x : Instance) (out : List ℕ) → Wrote text x out → UniformConsensus (suc (crashesSaid out (x .processes))) x (endSaid out)
-  pub crashes : (text : List ℕ) (x : Instance) (out : List ℕ) → Wrote text x out → CountsCrashes (crashesSaid out (x .processes)) x (endSaid out)
-  pub noLater : (a b : List ℕ) (x y : Instance) (out out′ : List ℕ) → Wrote a x out → Wrote b y out′ → PairedTexts a b → NoLater x (endSaid out) y (endSaid out′)
+  pub consensus : (text : List ℕ) (x : Instance) (out : List ℕ) (ends : ℕ → State) (counts : Counts) → Wrote text x out → Says x out ends counts
+      → UniformConsensus (suc (counts .crashes)) x ends
+  pub crashes : (text : List ℕ) (x : Instance) (out : List ℕ) (ends : ℕ → State) (counts : Counts) → Wrote text x out → Says x out ends counts
+      → CountsCrashes (counts .crashes) x ends
+  pub noLater : (a b : List ℕ) (x y : Instance) (out out′ : List ℕ) (ends ends′ : ℕ → State) (counts counts′ : Counts)
+      → Wrote a x out → Wrote b y out′ → Says x out ends counts → Says y out′ ends′ counts′ → PairedTexts a b → NoLater x ends y ends′
 
 -- Demand 3: both claims.
 pub record Demand3 : Type 0 where

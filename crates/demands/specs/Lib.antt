@@ -1,5 +1,9 @@
 pub mod Said
+pub mod Written
 pub mod PairedTexts
+pub mod PartsClaim
+pub mod Demand1
+pub mod Demand2
 pub mod Demand3
 pub mod BoundClaim
-pub mod PartsClaim
+pub mod Witnesses

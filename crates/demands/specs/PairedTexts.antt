@@ -8,7 +8,9 @@ use Rattle.formats.specs.Line.{Line, bytes, linesOf}
 
 -- A failure line of the commit step: 03, station, round, 02, set (8 bytes), count.
 pub record CommitLine (b : List ℕ) : Type 0 where
+  -- of kind 03
   pub kind : getD b 0 0 ≡ 3
+  -- of step 02
   pub step : getD b 3 0 ≡ 2
 
 pub data PairedLines : List Line → List Line → Type 0 where

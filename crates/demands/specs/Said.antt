@@ -1,12 +1,17 @@
--- What the bytes of an output say (document 01, 'The result'): how each process ended, and f. The rounds are not looked at.
--- A line that is not as document 01 lays it out says nothing: its process then counts as undecided, and f as 0.
+-- What the bytes of an output say (document 01, 'The result'): how each process ended, and the run's counts. The rounds are not looked at.
+-- A line that is not as document 01 lays it out says nothing.
 use mathlib.Core.List.{List}
+use mathlib.Core.Path.{_≡_}
+use mathlib.Core.Option.{Option, some, none}
 use Prim.Native.Nat.{ℕ, _-_}
 use mathlib.Core.Bool.{Bool, cond, _&&_}
 use lib.Dec.{eqb}
-use lib.ListN.{getD, drop}
+use lib.ListN.{getD, take, drop}
 use Rattle.general.specs.BigEndian.{number}
-use Rattle.protocol.specs.Round.{State, undecided, decided, crashed}
+use Rattle.protocol.specs.Instance.{Instance}
+use Rattle.protocol.specs.Round.{State, decided, crashed}
+use Rattle.protocol.specs.Run.{runOf, crashesOf}
+use Rattle.protocol.specs.Consensus.{IsProcess}
 use Rattle.formats.specs.Line.{Line, bytes, noLine, linesOf}
 use Rattle.formats.specs.Accept.{isKind}
 
@@ -22,29 +27,65 @@ abbrev pub valueIn : List ℕ → ℕ
 valueIn b = number (drop 4 b)
 
 -- How process p ended by the bytes of its line: with end 01 it decided; with end 02, and 0 for a value, it crashed.
-unfoldable pub endIn : ℕ → List ℕ → State
+unfoldable pub endIn : ℕ → List ℕ → Option State
 endIn p b =
-    cond (isProcessLine p 1 b) (decided (roundIn b) (valueIn b))
-    (cond (isProcessLine p 2 b && eqb (valueIn b) 0) (crashed (roundIn b))
-    (undecided 0))
+    cond (isProcessLine p 1 b) (some (decided (roundIn b) (valueIn b)))
+    (cond (isProcessLine p 2 b && eqb (valueIn b) 0) (some (crashed (roundIn b)))
+    none)
 
-unfoldable pub endFrom : ℕ → Line → State
+unfoldable pub endFrom : ℕ → Line → Option State
 endFrom p (bytes b) = endIn p b
-endFrom p noLine = undecided 0
+endFrom p noLine = none
 
--- f by the last line: 12, rounds, f, speakers, data (2 bytes), commits (2 bytes).
-unfoldable pub crashesFrom : Line → ℕ
-crashesFrom (bytes b) = cond (isKind 0x12 8 b) (getD b 2 0) 0
-crashesFrom noLine = 0
+-- What the last line counts: 12, rounds, f, speakers, data (2 bytes), commits (2 bytes).
+pub record Counts : Type 0 where
+  pub rounds : ℕ
+  pub crashes : ℕ
+  pub speakers : ℕ
+  pub dataSent : ℕ
+  pub commitsSent : ℕ
+
+abbrev pub countsBy : List ℕ → Counts
+countsBy b =
+    record {
+      rounds = getD b 1 0;
+      crashes = getD b 2 0;
+      speakers = getD b 3 0;
+      dataSent = number (take 2 (drop 4 b));
+      commitsSent = number (drop 6 b);
+    }
+
+unfoldable pub countsIn : List ℕ → Option Counts
+countsIn b = cond (isKind 0x12 8 b) (some (countsBy b)) none
+
+unfoldable pub countsFrom : Line → Option Counts
+countsFrom (bytes b) = countsIn b
+countsFrom noLine = none
 
 -- Line k of an output, counted from 0. The lines of a result come first, and what stands after them changes none of them.
 unfoldable pub lineAt : List ℕ → ℕ → Line
 lineAt out k = getD (linesOf out) k noLine
 
 -- How process p ended: the p-th line is its station line.
-unfoldable pub endSaid : List ℕ → ℕ → State
+unfoldable pub endSaid : List ℕ → ℕ → Option State
 endSaid out p = endFrom p (lineAt out (p - 1))
 
--- f of a result of n processes: line n + 1 is the last line.
-unfoldable pub crashesSaid : List ℕ → ℕ → ℕ
-crashesSaid out n = crashesFrom (lineAt out n)
+-- The counts of a result of n processes: line n + 1 is the last line.
+unfoldable pub countsSaid : List ℕ → ℕ → Option Counts
+countsSaid out n = countsFrom (lineAt out n)
+
+-- The bytes say that the processes of the instance end so, and that this was counted.
+pub record Says (x : Instance) (out : List ℕ) (ends : ℕ → State) (counts : Counts) : Type 0 where
+  pub states : (p : ℕ) → IsProcess x p → endSaid out p ≡ some (ends p)
+  pub last : countsSaid out (x .processes) ≡ some counts
+
+-- What is counted of the instance's rounds.
+unfoldable pub countsOf : Instance → Counts
+countsOf x =
+    record {
+      rounds = runOf x .rounds;
+      crashes = crashesOf x;
+      speakers = runOf x .speakers;
+      dataSent = runOf x .dataSent;
+      commitsSent = runOf x .commitsSent;
+    }

@@ -12,3 +12,4 @@ pub mod LineSteps
 pub mod LineReadBack
 pub mod ResultLength
 pub mod CodesApart
+pub mod FirstWrong

@@ -4,6 +4,7 @@ use mathlib.Core.Path.{_≡_}
 use Prim.Native.Nat.{ℕ, _+_, _*_}
 use lib.ListN.{length}
 use Rattle.formats.specs.Reading.{Reading, accepted, refused}
+use Rattle.formats.specs.Running.{running, bufferAfter}
 use Rattle.formats.specs.Settle.{Settles}
 use Rattle.formats.specs.Ticket.{readTicket}
 
@@ -20,12 +21,17 @@ unfoldable pub runCode : Reading (List ℕ) → ℕ
 runCode (accepted result) = length result
 runCode (refused number line) = refusalCode number line
 
+-- A call of running with this text and a buffer that held `before` answers this code and leaves `after`: the contract of `uc_run`.
+pub record RunCall (text before after : List ℕ) (code : ℕ) : Type 0 where
+  pub answered : code ≡ runCode (running text (length before))
+  pub buffer : after ≡ bufferAfter (running text (length before)) before
+
 -- Settling: the round, or the refusal.
 unfoldable pub settleCode : Reading ℕ → ℕ
 settleCode (accepted r) = r
 settleCode (refused number line) = refusalCode number line
 
--- The number is the code of an answer that is right for the ticket.
+-- The number is the code of an answer that is right for the ticket: the contract of `uc_settle`.
 pub record SettlesAs (text : List ℕ) (code : ℕ) : Type 0 where
   pub answer : Reading ℕ
   pub settles : Settles (readTicket text) answer

@@ -16,3 +16,4 @@ pub mod Marked
 pub mod Worked
 pub mod Code
 pub mod CodesApart
+pub mod FirstWrong

@@ -1,0 +1,96 @@
+-- The premises of the claims are met by case 1: computed from its text and those that it is paired with. Assumes nothing.
+use mathlib.Core.List.{List, [], _∷_}
+use mathlib.Core.Path.{refl}
+use Prim.Native.Nat.{ℕ}
+use native.Mathlib.Omega.{arith}
+use lib.Count.{onesIn}
+use lib.ListN.{replicate}
+use Rattle.general.specs.Bits.{member, ones64}
+use Rattle.general.specs.BigEndian.{number, numberFrom, bytesOf}
+use Rattle.general.specs.Indexed.{mapFrom}
+use Rattle.general.specs.Text.{ascii}
+use Rattle.protocol.specs.Instance.{Instance, Fault, correct, crashes, duringCommits, pointFrom, faultOf, withinLimits}
+use Rattle.protocol.specs.Message.{arriving}
+use Rattle.protocol.specs.Transition.{sends, receives}
+use Rattle.protocol.specs.Delivery.{amongFirst, reachAt, reachIn, reach}
+use Rattle.protocol.specs.Round.{stateOf, crashesIn, sentBy, received, afterOutcome, after, statesAfter}
+use Rattle.protocol.specs.Undecided.{isUndecided, anyUndecided}
+use Rattle.protocol.specs.Count.{dataAt, commitsAt, countIn, speaks, dataIn, commitsIn}
+use Rattle.protocol.specs.CrashCount.{isIdle, countsAsCrash, crashCount}
+use Rattle.protocol.specs.Run.{initial, withRound, runTo, runOf, crashesOf}
+use Rattle.protocol.specs.Consensus.{endOf}
+use Rattle.formats.specs.Digit.{digitValue, isDigit}
+use Rattle.formats.specs.Line.{scan, closed, unclosed, linesFrom, linesOf}
+use Rattle.formats.specs.FailureLine.{placesCrash, allBetween, suitsStep}
+use Rattle.formats.specs.Accept.{isKind, acceptHeader, afterProposal, acceptProposal, failureLine, withCrash, acceptCrash, acceptFailure, accept}
+use Rattle.formats.specs.Reading.{proceed, readFrom}
+use Rattle.formats.specs.Ticket.{atEnd, readTicket}
+use Rattle.formats.specs.HexText.{digitOf, hexDigits, hexLine}
+use Rattle.formats.specs.ResultLine.{endBytes, processLine, lastLine, joined, resultLines, resultText, resultSize}
+use Rattle.formats.specs.Running.{resultIn, running, bufferAfter}
+use Rattle.formats.specs.Code.{runCode}
+use Rattle.formats.specs.Table.{textOf, opening, case1, case3}
+use Rattle.running.specs.Answer.{answerOf}
+use Rattle.demands.specs.PairedTexts.{CommitLine, PairedTexts, noLines, sameLine, countNoLower, missingLine}
+use Rattle.demands.specs.Witnesses.{crashText, moreCommitsText, noCrashText, PairMet, RunMet, Witnesses}
+
+-- Case 1's instance, but for process 1's fault.
+abbrev instanceWith : Fault → Instance
+instanceWith fault =
+    record { processes = 4; resilience = 2; proposals = 10 ∷ 20 ∷ 30 ∷ 40 ∷ []; pattern = fault ∷ correct ∷ correct ∷ correct ∷ [] }
+
+-- The bytes of its failure line, with this count.
+abbrev commitLine : ℕ → List ℕ
+commitLine count = 3 ∷ 1 ∷ 1 ∷ 2 ∷ 0 ∷ 0 ∷ 0 ∷ 0 ∷ 0 ∷ 0 ∷ 0 ∷ 0 ∷ count ∷ []
+
+is-commit-line : (count : ℕ) → CommitLine (commitLine count)
+is-commit-line count = omega arith
+
+paired-commits : PairedTexts crashText moreCommitsText
+unfolding PairedTexts crashText moreCommitsText noCrashText opening case1 case3 textOf ascii digitValue isDigit scan closed unclosed linesFrom linesOf
+paired-commits =
+    sameLine (sameLine (sameLine (sameLine (sameLine (countNoLower (is-commit-line 1) (is-commit-line 3) refl (omega arith) (sameLine noLines))))))
+
+paired-missing : PairedTexts crashText noCrashText
+unfolding PairedTexts crashText moreCommitsText noCrashText opening case1 case3 textOf ascii digitValue isDigit scan closed unclosed linesFrom linesOf
+paired-missing = sameLine (sameLine (sameLine (sameLine (sameLine (missingLine (is-commit-line 1) (sameLine noLines))))))
+
+more-commits : PairMet crashText moreCommitsText 2 1
+unfolding endOf crashText moreCommitsText noCrashText opening case1 case3 textOf ascii onesIn member ones64 number numberFrom bytesOf mapFrom pointFrom faultOf withinLimits arriving sends receives amongFirst reachAt reachIn reach stateOf crashesIn sentBy received afterOutcome after statesAfter isUndecided anyUndecided dataAt commitsAt countIn speaks dataIn commitsIn isIdle countsAsCrash crashCount initial withRound runTo runOf crashesOf digitValue isDigit scan closed unclosed linesFrom linesOf proceed readFrom isKind acceptHeader afterProposal acceptProposal failureLine placesCrash allBetween suitsStep withCrash acceptCrash acceptFailure accept atEnd readTicket
+more-commits =
+    record {
+      first = instanceWith (crashes 1 (duringCommits 1));
+      second = instanceWith (crashes 1 (duringCommits 3));
+      read = refl;
+      readSecond = refl;
+      paired = paired-commits;
+      decides = record { process = omega arith; state = refl };
+      decidesSecond = record { process = omega arith; state = refl };
+    }
+
+line-missing : PairMet crashText noCrashText 2 1
+unfolding endOf crashText moreCommitsText noCrashText opening case1 case3 textOf ascii onesIn member ones64 number numberFrom bytesOf mapFrom pointFrom faultOf withinLimits arriving sends receives amongFirst reachAt reachIn reach stateOf crashesIn sentBy received afterOutcome after statesAfter isUndecided anyUndecided dataAt commitsAt countIn speaks dataIn commitsIn isIdle countsAsCrash crashCount initial withRound runTo runOf crashesOf digitValue isDigit scan closed unclosed linesFrom linesOf proceed readFrom isKind acceptHeader afterProposal acceptProposal failureLine placesCrash allBetween suitsStep withCrash acceptCrash acceptFailure accept atEnd readTicket
+line-missing =
+    record {
+      first = instanceWith (crashes 1 (duringCommits 1));
+      second = instanceWith correct;
+      read = refl;
+      readSecond = refl;
+      paired = paired-missing;
+      decides = record { process = omega arith; state = refl };
+      decidesSecond = record { process = omega arith; state = refl };
+    }
+
+-- The buffer of 100 bytes holds the result and, behind it, what stood there.
+written : RunMet crashText 85
+unfolding answerOf runCode running resultIn bufferAfter resultText resultLines joined lastLine processLine endBytes resultSize hexLine hexDigits digitOf crashText moreCommitsText noCrashText opening case1 case3 textOf ascii onesIn member ones64 number numberFrom bytesOf mapFrom pointFrom faultOf withinLimits arriving sends receives amongFirst reachAt reachIn reach stateOf crashesIn sentBy received afterOutcome after statesAfter isUndecided anyUndecided dataAt commitsAt countIn speaks dataIn commitsIn isIdle countsAsCrash crashCount initial withRound runTo runOf crashesOf digitValue isDigit scan closed unclosed linesFrom linesOf proceed readFrom isKind acceptHeader afterProposal acceptProposal failureLine placesCrash allBetween suitsStep withCrash acceptCrash acceptFailure accept atEnd readTicket
+written =
+    record {
+      before = replicate 100 165;
+      after = bufferAfter (running crashText 100) (replicate 100 165);
+      ran = record { answered = refl; buffer = refl };
+      called = record { call = record { answered = refl; buffer = refl }; small = omega arith };
+    }
+
+pub witnesses : Witnesses
+witnesses = record { moreCommits = more-commits; lineMissing = line-missing; written = written }

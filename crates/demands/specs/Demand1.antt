@@ -1,0 +1,39 @@
+-- Demand 1 (document 00): "A ticket, well formed or damaged, gets a result, or the number of its refusal and its first wrong line (0 if no line is wrong). A refusal
+-- writes nothing to the output buffer. Desk state and frames are checked in the same way, and a refused call changes no state."
+use mathlib.Core.List.{List, _++_}
+use mathlib.Core.Path.{_≡_}
+use mathlib.Core.Bool.{true}
+use Prim.Native.Nat.{ℕ, _≤_, _<_}
+use lib.ListN.{length, drop}
+use Rattle.protocol.specs.Instance.{Instance}
+use Rattle.protocol.specs.Settling.{qualifies}
+use Rattle.formats.specs.Reading.{accepted}
+use Rattle.formats.specs.Ticket.{readTicket}
+use Rattle.formats.specs.FirstWrong.{FirstWrong}
+use Rattle.formats.specs.ResultLine.{resultText, resultSize}
+use Rattle.formats.specs.Code.{refusalsFrom, refusalCode, RunCall, SettlesAs}
+
+-- Running a text into a buffer of `room` bytes is refused with this number and line: for its first wrong line, or, with 9 and no line, for want of room.
+pub data RunRefused (text : List ℕ) (room : ℕ) : (refusal line : ℕ) → Type 0 where
+  wrong : {refusal line : ℕ} → FirstWrong text refusal line → RunRefused text room refusal line
+  tooShort : (x : Instance) → readTicket text ≡ accepted x → room < resultSize (x .processes) → RunRefused text room 9 0
+
+-- What the call of running answers, and what the buffer holds afterwards: the size of the result, which stands at its front, and behind it what stood there; or a refusal,
+-- and all as it was.
+pub data RunAnswered (text before after : List ℕ) (code : ℕ) : Type 0 where
+  result : (x : Instance) → readTicket text ≡ accepted x → resultSize (x .processes) ≤ length before → code ≡ resultSize (x .processes) → code < refusalsFrom
+      → after ≡ resultText x ++ drop (resultSize (x .processes)) before → RunAnswered text before after code
+  refusal : (number line : ℕ) → RunRefused text (length before) number line → code ≡ refusalCode number line → refusalsFrom ≤ code → after ≡ before
+      → RunAnswered text before after code
+
+-- What the call of settling answers: a round that qualifies, or the refusal of the text's first wrong line.
+pub data SettleAnswered (text : List ℕ) (code : ℕ) : Type 0 where
+  round : (x : Instance) → readTicket text ≡ accepted x → qualifies x code ≡ true → code < refusalsFrom → SettleAnswered text code
+  refusal : (number line : ℕ) → FirstWrong text number line → code ≡ refusalCode number line → refusalsFrom ≤ code → SettleAnswered text code
+
+-- Of tickets: every text and every buffer gets its answer; a text is accepted or has a first wrong line, and only one.
+pub record TicketsAnswered : Type 0 where
+  pub run : (text before after : List ℕ) (code : ℕ) → RunCall text before after code → RunAnswered text before after code
+  pub settle : (text : List ℕ) (code : ℕ) → SettlesAs text code → SettleAnswered text code
+  pub onlyOne : (text : List ℕ) (number line number′ line′ : ℕ) → FirstWrong text number line → FirstWrong text number′ line′ → (number ≡ number′) × (line ≡ line′)
+  pub notBoth : (text : List ℕ) (x : Instance) (number line : ℕ) → readTicket text ≡ accepted x → FirstWrong text number line → ⊥
