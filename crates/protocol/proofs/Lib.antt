@@ -23,3 +23,4 @@ pub mod SameEnds
 pub mod Settled
 pub mod Speakers
 pub mod Bound
+pub mod CountsReached

@@ -11,3 +11,4 @@ pub mod Settling
 pub mod WellFormed
 pub mod Consensus
 pub mod SpeakerBound
+pub mod CountsReached
