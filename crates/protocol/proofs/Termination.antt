@@ -8,11 +8,11 @@ use Rattle.protocol.specs.Round.{State, undecided, decided, crashed}
 use Rattle.protocol.specs.Run.{crashesOf}
 use Rattle.protocol.specs.CrashCount.{hasCrashed}
 use Rattle.protocol.specs.WellFormed.{WellFormed}
-use Rattle.protocol.specs.Consensus.{IsProcess, endOf, Decides, Termination, DecidesBy, latestOf}
+use Rattle.protocol.specs.Consensus.{IsProcess, endOf, Decides, Termination, DecidesBy, CrashesNoOther, latestOf}
 use Rattle.protocol.proofs.Pointwise.{stateAt}
 use Rattle.protocol.proofs.History.{undecided-earlier, crashed-later}
 use Rattle.protocol.proofs.Coordinator.{waits-below, coordinator-crashed, decided-since}
-use Rattle.protocol.proofs.CrashCount.{crashes-le, crashed-is-one, not-idle-crashed, crashes-at-least}
+use Rattle.protocol.proofs.CrashCount.{crashes-le, crashed-is-one, crashes-no-other, crashes-at-least}
 use Rattle.protocol.proofs.Ends.{end-at, decided-at}
 
 module _ (x : Instance) (formed : WellFormed x) where
@@ -29,7 +29,7 @@ module _ (x : Instance) (formed : WellFormed x) where
           crashed-is-one _ j (end-at x formed k coordinator ∙ crashed-later x k _ k j (omega arith) c)
 
   pub terminates : Termination x (endOf x)
-  unfolding Termination
+  unfolding Termination CrashesNoOther
   terminates p process up = by-state (stateAt x (suc (x .resilience)) p) refl
     where
       at-end : endOf x p ≡ stateAt x (suc (x .resilience)) p
@@ -38,8 +38,7 @@ module _ (x : Instance) (formed : WellFormed x) where
       by-state : (s : State) → stateAt x (suc (x .resilience)) p ≡ s → (r : ℕ) × (v : ℕ) × Decides x (endOf x) p r v
       by-state (undecided v) e = absurd (let z : ⊥ = omega (arith, waits-for-crashes _ p v (omega arith) process e, crashes-le x formed) in z)
       by-state (decided r v) e = (r, v, record { process = process; state = at-end ∙ e })
-      by-state (crashed j) e =
-          absurd (up (record { process = process; notIdle = not-idle-crashed x formed p process ∙ crashed-is-one _ j (at-end ∙ e) }))
+      by-state (crashed j) e = absurd (up j (crashes-no-other x formed p j process (at-end ∙ e)))
 
   pub decides-early : DecidesBy (latestOf x) x (endOf x)
   unfolding DecidesBy latestOf
