@@ -1,3 +1,4 @@
+pub mod WorkedRuns
 pub mod Limits
 pub mod Pointwise
 pub mod Undecided

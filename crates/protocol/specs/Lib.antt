@@ -12,3 +12,5 @@ pub mod WellFormed
 pub mod Consensus
 pub mod SpeakerBound
 pub mod CountsReached
+pub mod WorkedTable
+pub mod WorkedRuns
