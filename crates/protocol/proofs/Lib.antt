@@ -1,4 +1,3 @@
-pub mod WorkedRuns
 pub mod Limits
 pub mod Pointwise
 pub mod Undecided
@@ -25,3 +24,4 @@ pub mod Settled
 pub mod Speakers
 pub mod Bound
 pub mod CountsReached
+pub mod WorkedRuns

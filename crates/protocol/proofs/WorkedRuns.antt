@@ -1,4 +1,5 @@
--- The worked runs are what the definitions give: both sides are computed, so the line below names every definition on the way. Assumes nothing.
+-- The worked runs are what the definitions give, row by row: both sides are computed, so the line below names every definition on the way.
+-- Assumes nothing.
 use mathlib.Core.Path.{refl}
 use lib.Count.{onesIn}
 use Rattle.general.specs.Bits.{member, ones64}
@@ -16,8 +17,8 @@ use Rattle.protocol.specs.Settling.{valuesHeld, allAre, oneValue, qualif
 use Rattle.protocol.specs.Consensus.{latestOf}
 use Rattle.protocol.specs.WorkedTable.{four, case1, case2, case3, case4, case5, case6, case7, case8, case9}
 use Rattle.protocol.specs.WorkedTable.{crashesLater, silentAtLast, noCommit, twoReached, workedRuns}
-use Rattle.protocol.specs.WorkedRuns.{qualifyingTo, worked, WorkedRuns}
+use Rattle.protocol.specs.WorkedRuns.{qualifyingTo, worked, AsWorked, WorkedRuns}
 
 pub worked-runs : WorkedRuns
-unfolding workedRuns worked qualifyingTo four case1 case2 case3 case4 case5 case6 case7 case8 case9 crashesLater silentAtLast noCommit twoReached onesIn member ones64 mapFrom arriving faultOf sends receives amongFirst reachAt reachIn reach stateOf crashesIn sentBy received afterOutcome after statesAfter isUndecided anyUndecided dataAt commitsAt countIn speaks dataIn commitsIn isIdle countsAsCrash crashCount initial withRound runTo runOf crashesOf valuesHeld allAre oneValue qualifies latestOf
-worked-runs = record { number = refl; asWorked = refl }
+unfolding workedRuns AsWorked worked qualifyingTo four case1 case2 case3 case4 case5 case6 case7 case8 case9 crashesLater silentAtLast noCommit twoReached onesIn member ones64 mapFrom arriving faultOf sends receives amongFirst reachAt reachIn reach stateOf crashesIn sentBy received afterOutcome after statesAfter isUndecided anyUndecided dataAt commitsAt countIn speaks dataIn commitsIn isIdle countsAsCrash crashCount initial withRound runTo runOf crashesOf valuesHeld allAre oneValue qualifies latestOf
+worked-runs = record { number = refl; asWorked = (refl, (refl, (refl, (refl, (refl, (refl, (refl, (refl, (refl, (refl, (refl, (refl, (refl, tt))))))))))))) }

@@ -1,5 +1,5 @@
 -- The worked runs are what the definitions give (document 01, 'Worked runs').
-use mathlib.Core.List.{List, [], _∷_, _++_, map}
+use mathlib.Core.List.{List, [], _∷_, _++_}
 use mathlib.Core.Path.{_≡_}
 use mathlib.Core.Bool.{cond}
 use Prim.Native.Nat.{ℕ, zero, suc}
@@ -27,7 +27,12 @@ worked x =
       settling = qualifyingTo x (suc (suc (x .resilience)));
     }
 
--- The claim: there are 13, and each is what the definitions give for its instance.
+-- Each run of a list is what the definitions give for its instance.
+unfoldable pub AsWorked : List WorkedRun → Type 0
+AsWorked [] = Unit {0}
+AsWorked (w ∷ runs) = (worked (w .run) ≡ w) × AsWorked runs
+
+-- The claim: so are the 13 runs of the table.
 pub record WorkedRuns : Type 0 where
   pub number : length workedRuns ≡ 13
-  pub asWorked : map (λ (w : WorkedRun). worked (w .run)) workedRuns ≡ workedRuns
+  pub asWorked : AsWorked workedRuns
