@@ -15,14 +15,14 @@ use Rattle.protocol.specs.Instance.{Instance, Fault, correct, crashes, C
 use Rattle.protocol.specs.Round.{State, undecided}
 use Rattle.protocol.specs.Undecided.{isUndecided, anyUndecided}
 use Rattle.protocol.specs.Count.{speaks, dataAt, commitsAt, countIn, dataIn, commitsIn}
-use Rattle.protocol.specs.Run.{initial, withRound, runTo, runOf, crashesOf}
+use Rattle.protocol.specs.Run.{initial, withRound, runTo, runOf, crashesOf, lastRound}
 use Rattle.protocol.specs.WellFormed.{WellFormed, PointAllowed, FaultAllowed}
 use Rattle.protocol.proofs.CrashCount.{crashes-le}
 
 pub rounds-le : (x : Instance) (r : ℕ) → runTo x r .rounds ≤ r
 unfolding runTo initial withRound
 rounds-le x zero = omega arith
-rounds-le x (suc r) = cond-le (anyUndecided (runTo x r .states)) (suc r) (runTo x r .rounds) (suc r) (omega arith) (omega (arith, rounds-le x r))
+rounds-le x (suc r) = cond-le (anyUndecided (runTo x r .states)) _ _ _ (omega arith) (omega (arith, rounds-le x r))
 
 pub speakers-le : (x : Instance) (r : ℕ) → runTo x r .speakers ≤ r
 unfolding runTo initial withRound
@@ -32,7 +32,7 @@ speakers-le x (suc r) = omega (arith, speakers-le x r, cond-le (speaks (suc r) (
 -- The rounds do not fall from one round to the next.
 rounds-rise : (x : Instance) (r : ℕ) → runTo x r .rounds ≤ runTo x (suc r) .rounds
 unfolding runTo withRound
-rounds-rise x r = le-cond (anyUndecided (runTo x r .states)) (suc r) (runTo x r .rounds) (runTo x r .rounds) (omega (arith, rounds-le x r)) (omega arith)
+rounds-rise x r = le-cond (anyUndecided (runTo x r .states)) _ _ _ (omega (arith, rounds-le x r)) (omega (arith, rounds-le x r))
 
 proposed-undecided : (proposals : List ℕ) → 1 ≤ length proposals → anyUndecided (map undecided proposals) ≡ true
 unfolding anyUndecided isUndecided
@@ -111,7 +111,7 @@ pub record CountsFit (x : Instance) : Type 0 where
 pub counts-fit : (x : Instance) → WellFormed x → CountsFit x
 unfolding runOf
 counts-fit x w =
-    let m : ℕ = suc (x .resilience) in
+    let m : ℕ = lastRound x in
     record {
       some-round = rounds-pos x w m (omega arith);
       rounds = omega (arith, rounds-le x m);

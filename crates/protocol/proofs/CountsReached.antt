@@ -18,7 +18,7 @@ use Rattle.protocol.specs.Instance.{Instance, Fault, correct, crashes, C
 use Rattle.protocol.specs.Delivery.{amongFirst, reachAt, reachIn, reach}
 use Rattle.protocol.specs.Round.{State}
 use Rattle.protocol.specs.Count.{speaks, dataAt, commitsAt, countIn, dataIn, commitsIn}
-use Rattle.protocol.specs.Run.{initial, withRound, runTo, runOf}
+use Rattle.protocol.specs.Run.{initial, withRound, runTo, runOf, lastRound}
 use Rattle.protocol.specs.WellFormed.{WellFormed, PointAllowed, FaultAllowed}
 use Rattle.protocol.specs.CountsReached.{reachedIn, reachedTo, CountedAsReached, CountsReached}
 use Rattle.protocol.proofs.Pointwise.{length-states}
@@ -144,6 +144,6 @@ module _ (x : Instance) (formed : WellFormed x) where
       record {
         dataOfRound = data-of-round;
         commitsOfRound = commits-of-round;
-        dataOfRun = data-to (suc (x .resilience)) (omega arith);
-        commitsOfRun = commits-to (suc (x .resilience)) (omega arith);
+        dataOfRun = data-to (lastRound x) (omega arith);
+        commitsOfRun = commits-to (lastRound x) (omega arith);
       }

@@ -12,7 +12,7 @@ use borrow.Author.Tests.{lt-ltb}
 use Rattle.protocol.specs.Instance.{Instance, Fault, correct, crashes, CrashPoint, faultOf}
 use Rattle.protocol.specs.Round.{State, undecided, decided, crashed, stateOf, crashesIn}
 use Rattle.protocol.specs.CrashCount.{isIdle, countsAsCrash, crashCount, hasCrashed, crashedCount}
-use Rattle.protocol.specs.Run.{runOf, crashesOf}
+use Rattle.protocol.specs.Run.{runOf, crashesOf, lastRound}
 use Rattle.protocol.specs.WellFormed.{WellFormed, FaultAllowed, faultCount}
 use Rattle.protocol.specs.Consensus.{IsProcess, CrashesAsSaid, CrashesNoOther, endOf}
 use Rattle.protocol.proofs.Pointwise.{stateAt}
@@ -83,17 +83,17 @@ module _ (x : Instance) (formed : WellFormed x) where
       record { process = process; point = point; line = line; notIdle = rw e }
 
   -- A failure line is not idle just if its process ends crashed.
-  line-counts : (p : ℕ) (fault : Fault) → faultOf x p ≡ fault → FaultAllowed (x .processes) (x .resilience) p fault → (s : State) → stateAt x (suc (x .resilience)) p ≡ s
+  line-counts : (p : ℕ) (fault : Fault) → faultOf x p ≡ fault → FaultAllowed (x .processes) (x .resilience) p fault → (s : State) → stateAt x (lastRound x) p ≡ s
       → countsAsCrash fault s ≡ hasCrashed s
   unfolding countsAsCrash isIdle hasCrashed FaultAllowed crashesIn
   line-counts p correct f allowed (undecided v) e = refl
   line-counts p correct f allowed (decided i v) e = refl
   line-counts p correct f allowed (crashed j) e =
-      let struck : crashesIn j (faultOf x p) ≡ true = crashed-by-fault x (suc (x .resilience)) p j e in
+      let struck : crashesIn j (faultOf x p) ≡ true = crashed-by-fault x (lastRound x) p j e in
       let none : false ≡ true = rw f at struck in
       cc
   line-counts p (crashes round point) f (one, last, _) (undecided v) e =
-      let ahead : suc (x .resilience) < round = undecided-before-fault x _ p v round point f one e in
+      let ahead : lastRound x < round = undecided-before-fault x _ p v round point f one e in
       absurd (let z : ⊥ = omega arith in z)
   line-counts p (crashes round point) f (one, last, _) (decided i v) e =
       let ahead : i < round = decided-before-fault x _ p i v round point f one e in

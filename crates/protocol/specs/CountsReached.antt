@@ -11,7 +11,7 @@ use Rattle.protocol.specs.Instance.{Instance, faultOf}
 use Rattle.protocol.specs.Delivery.{reach}
 use Rattle.protocol.specs.Round.{State}
 use Rattle.protocol.specs.Count.{speaks, dataIn, commitsIn}
-use Rattle.protocol.specs.Run.{runTo, runOf}
+use Rattle.protocol.specs.Run.{runTo, runOf, lastRound}
 
 -- How many processes the messages of round r reach as far as `gets` asks, if its coordinator speaks.
 unfoldable pub reachedIn : (Reach → Bool) → Instance → ℕ → List State → ℕ
@@ -31,5 +31,5 @@ CountedAsReached counted gets x =
 pub record CountsReached (x : Instance) : Type 0 where
   pub dataOfRound : CountedAsReached dataIn getsData x
   pub commitsOfRound : CountedAsReached commitsIn getsCommit x
-  pub dataOfRun : runOf x .dataSent ≡ reachedTo getsData x (suc (x .resilience))
-  pub commitsOfRun : runOf x .commitsSent ≡ reachedTo getsCommit x (suc (x .resilience))
+  pub dataOfRun : runOf x .dataSent ≡ reachedTo getsData x (lastRound x)
+  pub commitsOfRun : runOf x .commitsSent ≡ reachedTo getsCommit x (lastRound x)

@@ -5,7 +5,7 @@ use mathlib.Core.Bool.{cond}
 use Prim.Native.Nat.{ℕ, zero, suc}
 use lib.ListN.{length}
 use Rattle.protocol.specs.Instance.{Instance}
-use Rattle.protocol.specs.Run.{runOf, crashesOf}
+use Rattle.protocol.specs.Run.{lastRound, runOf, crashesOf}
 use Rattle.protocol.specs.Settling.{qualifies}
 use Rattle.protocol.specs.SpeakerBound.{boundBySpeakers}
 use Rattle.protocol.specs.Consensus.{latestOf}
@@ -24,7 +24,7 @@ worked x =
       ends = runOf x .states;
       counts = runOf x .rounds ∷ crashesOf x ∷ runOf x .speakers ∷ runOf x .dataSent ∷ runOf x .commitsSent ∷ [];
       limits = latestOf x ∷ boundBySpeakers (x .processes) (runOf x .speakers) ∷ [];
-      settling = qualifyingTo x (suc (suc (x .resilience)));
+      settling = qualifyingTo x (suc (lastRound x));
     }
 
 -- Each run of a list is what the definitions give for its instance.

@@ -169,12 +169,12 @@ noCommit =
       settling = 1 ∷ 2 ∷ [];
     }
 
--- The data reach processes 3 and 4.
+-- The data reach processes 2 and 3, so that process 4 alone holds another value.
 unfoldable pub twoReached : WorkedRun
 twoReached =
     record {
-      run = four (crashes 1 (duringData 12) ∷ correct ∷ correct ∷ correct ∷ []);
-      ends = crashed 1 ∷ decided 2 20 ∷ decided 2 20 ∷ decided 2 20 ∷ [];
+      run = four (crashes 1 (duringData 6) ∷ correct ∷ correct ∷ correct ∷ []);
+      ends = crashed 1 ∷ decided 2 10 ∷ decided 2 10 ∷ decided 2 10 ∷ [];
       counts = 2 ∷ 1 ∷ 2 ∷ 4 ∷ 2 ∷ [];
       limits = 2 ∷ 9 ∷ [];
       settling = 2 ∷ [];
