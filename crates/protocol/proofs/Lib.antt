@@ -25,3 +25,4 @@ pub mod Speakers
 pub mod Bound
 pub mod CountsReached
 pub mod WorkedRuns
+pub mod Impostors

@@ -14,3 +14,4 @@ pub mod SpeakerBound
 pub mod CountsReached
 pub mod WorkedTable
 pub mod WorkedRuns
+pub mod Impostors
