@@ -83,8 +83,8 @@ module _ (x : Instance) (formed : WellFormed x) where
       record { process = process; point = point; line = line; notIdle = rw e }
 
   -- A failure line is not idle just if its process ends crashed.
-  line-counts : (p : ℕ) (fault : Fault) → faultOf x p ≡ fault → FaultAllowed (x .processes) (x .resilience) p fault → (s : State) → stateAt x (lastRound x) p ≡ s
-      → countsAsCrash fault s ≡ hasCrashed s
+  line-counts : (p : ℕ) (fault : Fault) → faultOf x p ≡ fault → FaultAllowed (x .processes) (x .resilience) p fault
+      → (s : State) → stateAt x (lastRound x) p ≡ s → countsAsCrash fault s ≡ hasCrashed s
   unfolding countsAsCrash isIdle hasCrashed FaultAllowed crashesIn
   line-counts p correct f allowed (undecided v) e = refl
   line-counts p correct f allowed (decided i v) e = refl
