@@ -7,7 +7,7 @@ use Rattle.protocol.specs.Instance.{Instance, crashes, proposalOf}
 use Rattle.protocol.specs.Round.{State, undecided, decided, crashed, stateOf}
 use Rattle.protocol.specs.WellFormed.{WellFormed, FaultAllowed}
 use Rattle.protocol.specs.Run.{runOf, crashesOf}
-use Rattle.protocol.specs.Consensus.{IsProcess, Decides, Validity, DecidesBy, CrashesAsSaid, CrashesNoOther, UniformConsensus, endOf, latestOf}
+use Rattle.protocol.specs.Consensus.{IsProcess, Decides, Validity, DecidesBy, CrashesNoOther, UniformConsensus, endOf, latestOf}
 use Rattle.protocol.proofs.CrashCount.{crashes-le}
 use Rattle.protocol.proofs.Counts.{counts-fit}
 use Rattle.protocol.proofs.Ends.{states-at-end}
@@ -31,11 +31,12 @@ module _ (x : Instance) (formed : WellFormed x) where
 
   -- A crash happens in the round of its failure line.
   crashed-fits : (p r : ℕ) → IsProcess x p → endOf x p ≡ crashed r → r < 256
-  unfolding CrashesAsSaid CrashesNoOther FaultAllowed
+  unfolding CrashesNoOther FaultAllowed
   crashed-fits p r process e =
-      let (s, point, fault, ended) = consensus .crashesAsSaid p (consensus .crashesNoOther p r process e) in
-      let same : s ≡ r = cc in
-      let allowed : FaultAllowed (x .processes) (x .resilience) p (crashes s point) = rw fault at (formed .faults-allowed p (process .first) (process .last)) in
+      let crash = consensus .crashesNoOther p r process e in
+      let allowed : FaultAllowed (x .processes) (x .resilience) p (crashes r (crash .point)) =
+      rw (crash .line) at (formed .faults-allowed p (process .first) (process .last))
+      in
       omega (arith, allowed .1)
 
   end-fits : (p : ℕ) → IsProcess x p → Fits (endOf x p)

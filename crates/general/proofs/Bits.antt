@@ -1,9 +1,9 @@
 -- Sets of processes as bits: `ones64` is the library's count of ones, the size of a set of processes above p, of n, the count of ones as the number of members, and the mask of the processes 1 to p. Assumes nothing.
-use mathlib.Core.List.{List, _∷_}
+use mathlib.Core.List.{List, [], _∷_}
 use mathlib.Core.Path.{_≡_, refl, sym, ap, ap₂, _∙_}
 use mathlib.Core.Bool.{Bool, true, false, cond}
 use Prim.Native.Nat.{ℕ, zero, suc, _+_, _-_, _*_, _/_, _%_, _^_, _≤_, _<_}
-use native.Mathlib.Nat.{div-add-mod', sub-add-cancel, lt-of-lt-of-le, pow-suc, mod-eq-of-lt, mod-lt}
+use native.Mathlib.Nat.{div-add-mod', sub-add-cancel, lt-of-lt-of-le, pow-suc, mod-eq-of-lt, mod-lt, div-eq-of-lt}
 use native.Mathlib.Numerals.{add-one, one-add}
 use native.Mathlib.Omega.{arith}
 use borrow.Author.Tests.{ltb-true, ltb-false, eqb-true, eqb-false, eq-eqb, ne-eqb}
@@ -11,8 +11,9 @@ use lib.Bits.{bitAnd, and-mask}
 use lib.Dec.{eqb, ltb}
 use lib.ListN.{length}
 use lib.Count.{onesIn, ones, ones-step, ones-cat, ones-le}
-use lib.Pow.{shr-lt, shr-shr, pow-pos, pow-mono}
+use lib.Pow.{shr-lt, shr-shr, field, mod-mod-pow, pow-pos, pow-mono}
 use Rattle.general.specs.Bits.{member, ones64, membersTo}
+use Rattle.general.specs.Indexed.{countFrom}
 
 -- Of a number of d digits, d digits are enough to look at.
 ones-in : (d n : ℕ) → n < 2 ^ d → onesIn d n ≡ ones n
@@ -23,7 +24,7 @@ ones-in (suc d) n h =
     ap (λ (k : ℕ). n % 2 + k) (ones-in d (n / 2) half) ∙ sym (ones-step n)
 
 -- The count of 64 digits is the language's.
-pub ones64-ones : (n : ℕ) → n < 2 ^ 64 → ones64 n ≡ ones n
+ones64-ones : (n : ℕ) → n < 2 ^ 64 → ones64 n ≡ ones n
 unfolding ones64
 ones64-ones n h = ones-in 64 n h
 
@@ -71,9 +72,42 @@ ones-members (suc k) set =
     onesIn-suc k set ∙ ap₂ (λ (a b : ℕ). a + b) (digit-member k set) (ones-members k set)
     ∙ length-one-more (member (suc k) set) (suc k) (membersTo k set)
 
+-- So the count of 64 digits is the number of the set's members.
+pub ones64-members : (set : ℕ) → ones64 set ≡ length (membersTo 64 set)
+unfolding ones64
+ones64-members set = ones-members 64 set
+
 -- The language's count of a word's ones is the number of the set's members.
 pub word-members : (set : ℕ) → set < 2 ^ 64 → ones set ≡ length (membersTo 64 set)
 word-members set h = sym (ones-in 64 set h) ∙ ones-members 64 set
+
+-- The ones of a set's digits from i on are its members among the elements of a list numbered from i + 1.
+ones-among : {A : Type 0} (i set : ℕ) (l : List A) → onesIn (length l) (set / 2 ^ i) ≡ countFrom (λ p a. member p set) (suc i) l
+unfolding onesIn countFrom
+ones-among i set [] = refl
+ones-among i set (a ∷ l) =
+    let next : set / 2 ^ i / 2 ≡ set / 2 ^ suc i = shr-shr set i 1 ∙ ap (λ (j : ℕ). set / 2 ^ j) (add-one i) in
+    ap₂ (λ (j k : ℕ). j + k) (digit-member i set) (ap (onesIn (length l)) next ∙ ones-among (suc i) set l)
+
+-- The size of a set of processes among n is the number of its members in a list of n.
+pub size-among : {A : Type 0} (set : ℕ) (l : List A) → length l ≤ 64 → set < 2 ^ length l → ones64 set ≡ countFrom (λ p a. member p set) 1 l
+size-among set l h within =
+    let whole : set / 2 ^ 0 ≡ set = omega arith in
+    ones64-ones set (lt-of-lt-of-le within (pow-mono h)) ∙ sym (ones-in (length l) set within)
+    ∙ ap (onesIn (length l)) (sym whole) ∙ ones-among 0 set l
+
+-- Processes 1 to p are not members of a set of processes above p.
+pub member-above : (p set : ℕ) → set % 2 ^ p ≡ 0 → (q : ℕ) → 1 ≤ q → q ≤ p → member q set ≡ false
+unfolding member
+member-above p set above q h g =
+    let upper : p - q + q ≡ p = omega arith in
+    let lower : 1 + (q - 1) ≡ q = omega arith in
+    let below : set % 2 ^ q ≡ 0 =
+    sym (mod-mod-pow set (p - q) q) ∙ ap (λ (k : ℕ). set % 2 ^ k % 2 ^ q) upper ∙ ap (λ (k : ℕ). k % 2 ^ q) above ∙ mod-eq-of-lt (pow-pos q)
+    in
+    let own : set % 2 ^ (1 + (q - 1)) ≡ 0 = ap (λ (k : ℕ). set % 2 ^ k) lower ∙ below in
+    let digit : set / 2 ^ (q - 1) % 2 ≡ 0 = sym (field set 1 (q - 1)) ∙ ap (λ (k : ℕ). k / 2 ^ (q - 1)) own ∙ div-eq-of-lt (pow-pos (q - 1)) in
+    rw digit
 
 -- The mask of the processes 1 to p.
 module _ (p : ℕ) (positive : 1 ≤ p) (small : p ≤ 64) where

@@ -1,4 +1,4 @@
--- Tests: what both sides of a conjunction say, tests that say the same, cases on an order and on an equality, bounds of a choice, and a test computed at every number below a bound. Assumes nothing.
+-- Tests: what both sides of a conjunction say, tests that say the same, cases on an order and on an equality, a bound of a choice, and a test computed at every number below a bound. Assumes nothing.
 use mathlib.Core.Path.{_≡_, refl, sym}
 use mathlib.Core.Bool.{Bool, true, false, cond, _&&_}
 use Prim.Native.Nat.{ℕ, zero, suc, _≤_, _<_}
@@ -36,14 +36,10 @@ by-equal {C} a b f g = pick (eqb a b) refl where
   pick true e = f (eqb-true a b e)
   pick false e = g (eqb-false a b e)
 
--- A choice of two numbers is at most what both are, and at least.
+-- A choice of two numbers is at most what both are.
 pub cond-le : (b : Bool) (k l m : ℕ) → k ≤ m → l ≤ m → cond b k l ≤ m
 cond-le true k l m h g = h
 cond-le false k l m h g = g
-
-pub le-cond : (b : Bool) (k l m : ℕ) → m ≤ k → m ≤ l → m ≤ cond b k l
-le-cond true k l m h g = h
-le-cond false k l m h g = g
 
 -- A test passes at every number below a bound; computed.
 abbrev pub everyBelow : ℕ → (ℕ → Bool) → Bool

@@ -9,7 +9,7 @@ use Rattle.protocol.specs.Instance.{Instance}
 use Rattle.protocol.specs.Round.{undecided}
 use Rattle.protocol.specs.Undecided.{isUndecided}
 use Rattle.protocol.specs.Count.{speaks}
-use Rattle.protocol.specs.Run.{Run, initial, runTo, runOf, crashesOf}
+use Rattle.protocol.specs.Run.{Run, initial, runTo, runOf, crashesOf, lastRound}
 use Rattle.protocol.specs.WellFormed.{WellFormed}
 use Rattle.protocol.specs.SpeakerBound.{boundBySpeakers, SpeakerBound}
 use Rattle.protocol.proofs.Pointwise.{stateAt}
@@ -72,7 +72,7 @@ halved n k messages h = omega arith
 
 module _ (x : Instance) (formed : WellFormed x) where
   -- The commits of m rounds are for processes above one that waits after them.
-  waiting-step : (m p v : ℕ) → m < suc (x .resilience) → suc m < p → p ≤ x .processes → stateAt x (suc m) p ≡ undecided v
+  waiting-step : (m p v : ℕ) → m < lastRound x → suc m < p → p ≤ x .processes → stateAt x (suc m) p ≡ undecided v
       → runTo x m .commitsSent ≤ runTo x m .speakers * (x .processes - p) → runTo x (suc m) .commitsSent ≤ runTo x (suc m) .speakers * (x .processes - p)
   unfolding runTo
   waiting-step m p v h above last e before = by-test (isUndecided (stateAt x m (suc m))) refl
@@ -89,7 +89,7 @@ module _ (x : Instance) (formed : WellFormed x) where
           let commits = commits-of-speaker x (suc m) (runTo x m) speaker point fault in
           commits-grow (x .processes - p) adds before (omega arith)
 
-  waiting : (m p v : ℕ) → m ≤ suc (x .resilience) → m < p → p ≤ x .processes → stateAt x m p ≡ undecided v
+  waiting : (m p v : ℕ) → m ≤ lastRound x → m < p → p ≤ x .processes → stateAt x m p ≡ undecided v
       → runTo x m .commitsSent ≤ runTo x m .speakers * (x .processes - p)
   unfolding runTo initial
   waiting zero p v h above last e = omega arith
@@ -98,7 +98,7 @@ module _ (x : Instance) (formed : WellFormed x) where
       waiting-step m p v h above last e (waiting m p u (omega arith) (omega arith) last before)
 
   -- The speaker of a round has waited for all rounds before.
-  bounded-step : (m : ℕ) → m < suc (x .resilience) → Bounded (x .processes) (crashesOf x) (runTo x m) → Bounded (x .processes) (crashesOf x) (runTo x (suc m))
+  bounded-step : (m : ℕ) → m < lastRound x → Bounded (x .processes) (crashesOf x) (runTo x m) → Bounded (x .processes) (crashesOf x) (runTo x (suc m))
   unfolding runTo
   bounded-step m h before = by-test (isUndecided (stateAt x m (suc m))) refl
     where
@@ -113,7 +113,7 @@ module _ (x : Instance) (formed : WellFormed x) where
           let waited = waiting m (suc m) u (omega arith) (omega arith) (omega arith) own in
           speaker-bounded (speakers-le x m) (omega arith) few adds estimates-le commits-le waited before
 
-  bounded : (m : ℕ) → m ≤ suc (x .resilience) → Bounded (x .processes) (crashesOf x) (runTo x m)
+  bounded : (m : ℕ) → m ≤ lastRound x → Bounded (x .processes) (crashesOf x) (runTo x m)
   unfolding runTo initial
   bounded zero h = record { speakers = omega arith; estimates = omega arith; commits = omega arith }
   bounded (suc m) h = bounded-step m h (bounded m (omega arith))
@@ -122,7 +122,7 @@ module _ (x : Instance) (formed : WellFormed x) where
 pub speaker-bound : (x : Instance) → WellFormed x → SpeakerBound x
 unfolding runOf
 speaker-bound x formed =
-    let last : ℕ = suc (x .resilience) in
+    let last : ℕ = lastRound x in
     let end = bounded x formed last (omega arith) in
     let fit : runTo x last .speakers ≤ x .processes = omega (arith, speakers-le x last) in
     record { speakers = end .speakers; speakersFit = fit; messages = halved _ _ _ (total _ _ _ _ fit (end .estimates) (end .commits)) }

@@ -1,28 +1,44 @@
 -- Bounds of what a run counts, so that it fits the numbers and the bytes that hold it: the rounds and the speakers of r rounds are at most r,
 -- round r sends at most n - r messages of each kind; and all counts of a run, f too (CrashCount), fit a result's last line. For well-formed instances where it says so. Assumes nothing else.
 use mathlib.Core.List.{List, [], _∷_, map}
-use mathlib.Core.Path.{_≡_, refl}
-use mathlib.Core.Bool.{true}
+use mathlib.Core.Logic.{_⊎_, inl, inr}
+use mathlib.Core.Path.{_≡_, refl, ap}
+use mathlib.Core.Bool.{Bool, true, false}
 use Prim.Native.Nat.{ℕ, zero, suc, _-_, _*_, _≤_, _<_}
 use native.Mathlib.Omega.{arith}
 use native.Mathlib.Nat.{le-refl, le-trans}
 use native.Mathlib.Decide.{le-ind}
 use lib.Dec.{eqb}
 use lib.ListN.{length}
-use Rattle.general.proofs.Tests.{cond-le, le-cond}
+use Rattle.general.proofs.Tests.{cond-le}
 use Rattle.general.proofs.Bits.{size-above}
 use Rattle.protocol.specs.Instance.{Instance, Fault, correct, crashes, CrashPoint, beforeSending, duringData, duringCommits, faultOf}
 use Rattle.protocol.specs.Round.{State, undecided}
 use Rattle.protocol.specs.Undecided.{isUndecided, anyUndecided}
 use Rattle.protocol.specs.Count.{speaks, dataAt, commitsAt, countIn, dataIn, commitsIn}
-use Rattle.protocol.specs.Run.{initial, withRound, runTo, runOf, crashesOf}
+use Rattle.protocol.specs.Run.{Run, initial, withRound, runTo, runOf, crashesOf, lastRound}
 use Rattle.protocol.specs.WellFormed.{WellFormed, PointAllowed, FaultAllowed}
 use Rattle.protocol.proofs.CrashCount.{crashes-le}
+use Rattle.protocol.proofs.Ended.{round-ended, round-counted}
+
+-- A round is counted, or the rounds stay as they were.
+rounds-step : (x : Instance) (r : ℕ) → (runTo x (suc r) .rounds ≡ suc r) ⊎ (runTo x (suc r) .rounds ≡ runTo x r .rounds)
+unfolding runTo
+rounds-step x r = by-test (anyUndecided (runTo x r .states)) refl
+  where
+    by-test : (b : Bool) → anyUndecided (runTo x r .states) ≡ b
+        → (withRound x (suc r) (runTo x r) .rounds ≡ suc r) ⊎ (withRound x (suc r) (runTo x r) .rounds ≡ runTo x r .rounds)
+    by-test true e = inl (round-counted x (suc r) (runTo x r) e)
+    by-test false e = inr (ap (λ (run : Run). run .rounds) (round-ended x (suc r) (runTo x r) e))
 
 pub rounds-le : (x : Instance) (r : ℕ) → runTo x r .rounds ≤ r
-unfolding runTo initial withRound
+unfolding runTo initial
 rounds-le x zero = omega arith
-rounds-le x (suc r) = cond-le (anyUndecided (runTo x r .states)) (suc r) (runTo x r .rounds) (suc r) (omega arith) (omega (arith, rounds-le x r))
+rounds-le x (suc r) = by-step (rounds-step x r) (rounds-le x r)
+  where
+    by-step : (runTo x (suc r) .rounds ≡ suc r) ⊎ (runTo x (suc r) .rounds ≡ runTo x r .rounds) → runTo x r .rounds ≤ r → runTo x (suc r) .rounds ≤ suc r
+    by-step (inl e) before = omega arith
+    by-step (inr e) before = omega arith
 
 pub speakers-le : (x : Instance) (r : ℕ) → runTo x r .speakers ≤ r
 unfolding runTo initial withRound
@@ -31,8 +47,11 @@ speakers-le x (suc r) = omega (arith, speakers-le x r, cond-le (speaks (suc r) (
 
 -- The rounds do not fall from one round to the next.
 rounds-rise : (x : Instance) (r : ℕ) → runTo x r .rounds ≤ runTo x (suc r) .rounds
-unfolding runTo withRound
-rounds-rise x r = le-cond (anyUndecided (runTo x r .states)) (suc r) (runTo x r .rounds) (runTo x r .rounds) (omega (arith, rounds-le x r)) (omega arith)
+rounds-rise x r = by-step (rounds-step x r)
+  where
+    by-step : (runTo x (suc r) .rounds ≡ suc r) ⊎ (runTo x (suc r) .rounds ≡ runTo x r .rounds) → runTo x r .rounds ≤ runTo x (suc r) .rounds
+    by-step (inl e) = omega (arith, rounds-le x r)
+    by-step (inr e) = omega arith
 
 proposed-undecided : (proposals : List ℕ) → 1 ≤ length proposals → anyUndecided (map undecided proposals) ≡ true
 unfolding anyUndecided isUndecided
@@ -41,8 +60,8 @@ proposed-undecided (v ∷ proposals) h = refl
 
 -- Round 1 begins with every process up and undecided, so it is one of the run's rounds.
 first-round : (x : Instance) → 1 ≤ length (x .proposals) → runTo x 1 .rounds ≡ 1
-unfolding runTo withRound initial
-first-round x h = rw (proposed-undecided (x .proposals) h)
+unfolding runTo initial
+first-round x h = round-counted x 1 (initial x) (proposed-undecided (x .proposals) h)
 
 pub rounds-pos : (x : Instance) → WellFormed x → (r : ℕ) → 1 ≤ r → 1 ≤ runTo x r .rounds
 rounds-pos x w r h =
@@ -111,7 +130,7 @@ pub record CountsFit (x : Instance) : Type 0 where
 pub counts-fit : (x : Instance) → WellFormed x → CountsFit x
 unfolding runOf
 counts-fit x w =
-    let m : ℕ = suc (x .resilience) in
+    let m : ℕ = lastRound x in
     record {
       some-round = rounds-pos x w m (omega arith);
       rounds = omega (arith, rounds-le x m);

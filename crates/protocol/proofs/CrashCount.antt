@@ -1,7 +1,7 @@
 -- f, the failure lines that are not idle, is at most t, and it is the number of processes that end crashed (document 01, 'A round': 'It goes dark undecided exactly when it has a failure line that is not idle').
 -- For well-formed instances. Assumes nothing else.
 use mathlib.Core.List.{List, [], _∷_}
-use mathlib.Core.Path.{_≡_, refl, sym, ap₂}
+use mathlib.Core.Path.{_≡_, refl, sym, ap, ap₂, _∙_}
 use mathlib.Core.Bool.{Bool, true, false}
 use Prim.Native.Nat.{ℕ, zero, suc, _+_, _≤_, _<_}
 use native.Mathlib.Nat.{le-trans}
@@ -9,15 +9,15 @@ use native.Mathlib.Numerals.{unary-clauses}
 use native.Mathlib.Omega.{arith}
 use lib.ListN.{length, getD}
 use borrow.Author.Tests.{lt-ltb}
-use Rattle.protocol.specs.Instance.{Instance, Fault, correct, crashes, faultOf}
+use Rattle.protocol.specs.Instance.{Instance, Fault, correct, crashes, CrashPoint, faultOf}
 use Rattle.protocol.specs.Round.{State, undecided, decided, crashed, stateOf, crashesIn}
 use Rattle.protocol.specs.CrashCount.{isIdle, countsAsCrash, crashCount, hasCrashed, crashedCount}
-use Rattle.protocol.specs.Run.{runOf, crashesOf}
+use Rattle.protocol.specs.Run.{runOf, crashesOf, lastRound}
 use Rattle.protocol.specs.WellFormed.{WellFormed, FaultAllowed, faultCount}
-use Rattle.protocol.specs.Consensus.{IsProcess, endOf}
+use Rattle.protocol.specs.Consensus.{IsProcess, CrashesAsSaid, CrashesNoOther, endOf}
 use Rattle.protocol.proofs.Pointwise.{stateAt}
 use Rattle.protocol.proofs.Ends.{states-at-end, end-at}
-use Rattle.protocol.proofs.Faults.{crashed-by-fault, undecided-before-fault, decided-before-fault}
+use Rattle.protocol.proofs.Faults.{struck-in, crashed-by-fault, undecided-before-fault, decided-before-fault}
 
 -- A failure line counts once at most.
 pub counts-once : (fault : Fault) (s : State) → countsAsCrash fault s ≤ 1
@@ -46,7 +46,7 @@ unfolding hasCrashed
 crashed-is-one s j e = rw e
 
 -- A state that counts as crashed is one.
-pub crash-round : (s : State) → hasCrashed s ≡ 1 → (r : ℕ) × (s ≡ crashed r)
+crash-round : (s : State) → hasCrashed s ≡ 1 → (r : ℕ) × (s ≡ crashed r)
 unfolding hasCrashed
 crash-round (undecided v) h = absurd (let z : ⊥ = omega arith in z)
 crash-round (decided r v) h = absurd (let z : ⊥ = omega arith in z)
@@ -72,18 +72,28 @@ first-crashed (suc m) (s ∷ states) h all =
     omega (arith, all 0 (omega arith), first-crashed m states (omega arith) (λ k g. all (suc k) (omega arith)))
 
 module _ (x : Instance) (formed : WellFormed x) where
+  -- A process that ends crashed has a failure line of that round.
+  crash-line : (p j : ℕ) → IsProcess x p → endOf x p ≡ crashed j → (point : CrashPoint) × (faultOf x p ≡ crashes j point)
+  crash-line p j process e = struck-in j (faultOf x p) (crashed-by-fault x _ p j (sym (end-at x formed p process) ∙ e))
+
+  pub crashes-no-other : CrashesNoOther x (endOf x)
+  unfolding CrashesNoOther isIdle
+  crashes-no-other p r process e =
+      let (point, line) = crash-line p r process e in
+      record { process = process; point = point; line = line; notIdle = rw e }
+
   -- A failure line is not idle just if its process ends crashed.
-  line-counts : (p : ℕ) (fault : Fault) → faultOf x p ≡ fault → FaultAllowed (x .processes) (x .resilience) p fault → (s : State) → stateAt x (suc (x .resilience)) p ≡ s
-      → countsAsCrash fault s ≡ hasCrashed s
+  line-counts : (p : ℕ) (fault : Fault) → faultOf x p ≡ fault → FaultAllowed (x .processes) (x .resilience) p fault
+      → (s : State) → stateAt x (lastRound x) p ≡ s → countsAsCrash fault s ≡ hasCrashed s
   unfolding countsAsCrash isIdle hasCrashed FaultAllowed crashesIn
   line-counts p correct f allowed (undecided v) e = refl
   line-counts p correct f allowed (decided i v) e = refl
   line-counts p correct f allowed (crashed j) e =
-      let struck : crashesIn j (faultOf x p) ≡ true = crashed-by-fault x (suc (x .resilience)) p j e in
+      let struck : crashesIn j (faultOf x p) ≡ true = crashed-by-fault x (lastRound x) p j e in
       let none : false ≡ true = rw f at struck in
       cc
   line-counts p (crashes round point) f (one, last, _) (undecided v) e =
-      let ahead : suc (x .resilience) < round = undecided-before-fault x _ p v round point f one e in
+      let ahead : lastRound x < round = undecided-before-fault x _ p v round point f one e in
       absurd (let z : ⊥ = omega arith in z)
   line-counts p (crashes round point) f (one, last, _) (decided i v) e =
       let ahead : i < round = decided-before-fault x _ p i v round point f one e in
@@ -92,6 +102,17 @@ module _ (x : Instance) (formed : WellFormed x) where
 
   pub not-idle-crashed : (p : ℕ) → IsProcess x p → countsAsCrash (faultOf x p) (endOf x p) ≡ hasCrashed (endOf x p)
   not-idle-crashed p process = line-counts p _ refl (formed .faults-allowed p (process .first) (process .last)) _ (sym (end-at x formed p process))
+
+  -- A line that is not idle counts, so its process ends crashed, and by no other line than its own.
+  pub crashes-as-said : CrashesAsSaid x (endOf x)
+  unfolding CrashesAsSaid countsAsCrash
+  crashes-as-said p r c =
+      let counts : countsAsCrash (faultOf x p) (endOf x p) ≡ 1 = rw (c .line, c .notIdle) in
+      let (j, ended) = crash-round (endOf x p) (sym (not-idle-crashed p (c .process)) ∙ counts) in
+      let (point, fault) = crash-line p j (c .process) ended in
+      let same : crashes j point ≡ crashes r (c .point) = sym fault ∙ c .line in
+      let now : j ≡ r = cc in
+      ended ∙ ap crashed now
 
   -- f is the number of processes that end crashed.
   pub crashes-are-crashed : crashesOf x ≡ crashedCount (runOf x .states)

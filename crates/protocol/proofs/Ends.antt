@@ -1,11 +1,11 @@
 -- The end of a whole run in the form of Pointwise, of which the theorems are proved. For well-formed instances. Assumes nothing else.
 use mathlib.Core.Path.{_≡_, sym, _∙_}
-use Prim.Native.Nat.{ℕ, suc}
+use Prim.Native.Nat.{ℕ}
 use native.Mathlib.Omega.{arith}
 use lib.ListN.{length}
 use Rattle.protocol.specs.Instance.{Instance}
 use Rattle.protocol.specs.Round.{decided}
-use Rattle.protocol.specs.Run.{runOf}
+use Rattle.protocol.specs.Run.{runOf, lastRound}
 use Rattle.protocol.specs.WellFormed.{WellFormed}
 use Rattle.protocol.specs.Consensus.{IsProcess, endOf, Decides}
 use Rattle.protocol.proofs.Pointwise.{stateAt, state-at, length-states}
@@ -17,9 +17,9 @@ module _ (x : Instance) (formed : WellFormed x) where
   states-at-end = length-states x _ ∙ formed .all-propose
 
   -- The end of a process is its state after t + 1 rounds.
-  pub end-at : (p : ℕ) → IsProcess x p → endOf x p ≡ stateAt x (suc (x .resilience)) p
+  pub end-at : (p : ℕ) → IsProcess x p → endOf x p ≡ stateAt x (lastRound x) p
   unfolding endOf runOf
-  end-at p process = state-at x (suc (x .resilience)) p (omega arith) (process .first) (omega arith)
+  end-at p process = state-at x (lastRound x) p (omega arith) (process .first) (omega arith)
 
-  pub decided-at : {p r v : ℕ} → Decides x (endOf x) p r v → stateAt x (suc (x .resilience)) p ≡ decided r v
+  pub decided-at : {p r v : ℕ} → Decides x (endOf x) p r v → stateAt x (lastRound x) p ≡ decided r v
   decided-at {p} d = sym (end-at p (d .process)) ∙ d .state

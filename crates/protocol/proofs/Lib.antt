@@ -23,3 +23,6 @@ pub mod SameEnds
 pub mod Settled
 pub mod Speakers
 pub mod Bound
+pub mod CountsReached
+pub mod WorkedRuns
+pub mod Impostors

@@ -5,6 +5,7 @@ use Prim.Native.Nat.{ℕ, zero, suc, _≤_}
 use native.Mathlib.Omega.{arith}
 use Rattle.protocol.specs.Instance.{Instance, proposalOf}
 use Rattle.protocol.specs.Round.{State, decided}
+use Rattle.protocol.specs.Run.{lastRound}
 use Rattle.protocol.specs.WellFormed.{WellFormed}
 use Rattle.protocol.specs.Consensus.{IsProcess, endOf, Paired, NoLater}
 use Rattle.protocol.proofs.Pointwise.{stateAt}
@@ -25,7 +26,7 @@ decided-no-later {i = i} {v = v} crashedInFirst e = absurd (decided-crashed _ i 
 
 module _ (x y : Instance) (formed : WellFormed x) (paired : Paired x y) where
   -- After each round the states of each process are related.
-  related : (r p : ℕ) → r ≤ suc (x .resilience) → IsProcess x p → Related r (stateAt x r p) (stateAt y r p)
+  related : (r p : ℕ) → r ≤ lastRound x → IsProcess x p → Related r (stateAt x r p) (stateAt y r p)
   unfolding stateAt proposalOf
   related zero p within process = rw (paired .proposals) bothUndecided
   related (suc r) p within process =
@@ -41,7 +42,7 @@ pub no-later : (x y : Instance) → WellFormed x → WellFormed y → Paired x y
 unfolding NoLater
 no-later x y formed formed′ paired p r v decision =
     let process : IsProcess y p = omega arith in
-    let states = related x y formed paired (suc (x .resilience)) p (omega arith) (decision .process) in
+    let states = related x y formed paired (lastRound x) p (omega arith) (decision .process) in
     let sooner = decided-no-later states (decided-at x formed decision) in
     let ended : endOf y p ≡ decided (sooner .0) v = end-at y formed′ p process ∙ cc (sooner .2, paired .resilience) in
     (sooner .0, sooner .1, record { process = process; state = ended })

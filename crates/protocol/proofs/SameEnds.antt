@@ -4,8 +4,8 @@ use Prim.Native.Nat.{ℕ}
 use native.Mathlib.Omega.{arith}
 use lib.ListN.{length}
 use Rattle.general.proofs.Indexed.{length-mapFrom, mapFrom-at}
-use Rattle.protocol.specs.Instance.{Instance, correct, faultOf}
-use Rattle.protocol.specs.CrashCount.{countsAsCrash}
+use Rattle.protocol.specs.Instance.{Instance, correct}
+use Rattle.protocol.specs.CrashCount.{isIdle}
 use Rattle.protocol.specs.Round.{State, crashed, stateOf}
 use Rattle.protocol.specs.Run.{runOf}
 use Rattle.protocol.specs.WellFormed.{WellFormed}
@@ -26,9 +26,10 @@ module _ (x : Instance) (ends ends′ : ℕ → State) (same : SameEnds x ends e
   unfolding SameEnds
   decides-same p r v d = record { process = d .process; state = sym (same p (d .process)) ∙ d .state }
 
-  crashes-same : (p : ℕ) → CrashesUndecided x ends p → CrashesUndecided x ends′ p
+  crashes-same : (p r : ℕ) → CrashesUndecided x ends p r → CrashesUndecided x ends′ p r
   unfolding SameEnds
-  crashes-same p c = record { process = c .process; notIdle = ap (countsAsCrash (faultOf x p)) (sym (same p (c .process))) ∙ c .notIdle }
+  crashes-same p r c =
+      record { process = c .process; point = c .point; line = c .line; notIdle = ap (isIdle r) (sym (same p (c .process))) ∙ c .notIdle }
 
 pub consensus-same : (x : Instance) (ends ends′ : ℕ → State) → SameEnds x ends ends′ → (latest : ℕ) → UniformConsensus latest x ends → UniformConsensus latest x ends′
 unfolding SameEnds Agreement Validity Termination DecidesBy CrashesAsSaid CrashesNoOther
@@ -39,13 +40,11 @@ consensus-same x ends ends′ same latest c =
       agreement = λ p q r s v w d e. c .agreement p q r s v w (decides-back p r v d) (decides-back q s w e);
       validity = λ p r v d. c .validity p r v (decides-back p r v d);
       termination = λ p process up.
-          let (r, v, d) = c .termination p process (λ crash. up (crashes-same x ends ends′ same p crash)) in
+          let (r, v, d) = c .termination p process (λ r crash. up r (crashes-same x ends ends′ same p r crash)) in
           (r, v, decides-same x ends ends′ same p r v d);
       earlyDecision = λ p r v d. c .earlyDecision p r v (decides-back p r v d);
-      crashesAsSaid = λ p crash.
-          let (r, point, fault, ended) = c .crashesAsSaid p (crashes-back p crash) in
-          (r, point, fault, sym (same p (crash .process)) ∙ ended);
-      crashesNoOther = λ p r process e. crashes-same x ends ends′ same p (c .crashesNoOther p r process (same p process ∙ e));
+      crashesAsSaid = λ p r crash. sym (same p (crash .process)) ∙ c .crashesAsSaid p r (crashes-back p r crash);
+      crashesNoOther = λ p r process e. crashes-same x ends ends′ same p r (c .crashesNoOther p r process (same p process ∙ e));
     }
 
 pub no-later-same : (x y : Instance) (ends ends′ other other′ : ℕ → State) → SameEnds x ends ends′ → SameEnds y other other′ → NoLater x ends y other → NoLater x ends′ y other′

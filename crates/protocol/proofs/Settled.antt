@@ -10,7 +10,7 @@ use borrow.Author.Tests.{eq-eqb, le-leb}
 use lib.ListN.{length, getD}
 use Rattle.protocol.specs.Instance.{Instance}
 use Rattle.protocol.specs.Round.{State, undecided, decided, crashed, stateOf}
-use Rattle.protocol.specs.Run.{runOf}
+use Rattle.protocol.specs.Run.{runOf, lastRound}
 use Rattle.protocol.specs.Settling.{valuesHeld, allAre, oneValue, qualifies}
 use Rattle.protocol.specs.WellFormed.{WellFormed}
 use Rattle.protocol.specs.Consensus.{Agreement, Decides, IsProcess, endOf}
@@ -78,4 +78,9 @@ module _ (x : Instance) (formed : WellFormed x) where
   unfolding qualifies runOf
   settled-at-last =
       let last : ℕ = runOf x .rounds in
-      rw (le-leb 1 last (rounds-pos x formed (suc (x .resilience)) (omega arith)), le-leb last last (le-refl last), run-at-rounds x (suc (x .resilience))) end-one-value
+      rw (
+        le-leb 1 last (rounds-pos x formed (lastRound x) (omega arith)),
+        le-leb last last (le-refl last),
+        run-at-rounds x (lastRound x),
+        end-one-value,
+      )

@@ -1,23 +1,23 @@
 -- Termination and early decision (document 001, section 3.3, Lemma 3). While a process waits, every coordinator so far has crashed:
 -- so none waits for more than f + 1 rounds. For well-formed instances. Assumes nothing else.
 use mathlib.Core.Path.{_≡_, refl, _∙_}
-use Prim.Native.Nat.{ℕ, suc, _≤_, _<_}
+use Prim.Native.Nat.{ℕ, _≤_, _<_}
 use native.Mathlib.Omega.{arith}
 use Rattle.protocol.specs.Instance.{Instance}
 use Rattle.protocol.specs.Round.{State, undecided, decided, crashed}
-use Rattle.protocol.specs.Run.{crashesOf}
+use Rattle.protocol.specs.Run.{crashesOf, lastRound}
 use Rattle.protocol.specs.CrashCount.{hasCrashed}
 use Rattle.protocol.specs.WellFormed.{WellFormed}
-use Rattle.protocol.specs.Consensus.{IsProcess, endOf, Decides, Termination, DecidesBy, latestOf}
+use Rattle.protocol.specs.Consensus.{IsProcess, endOf, Decides, Termination, DecidesBy, CrashesNoOther, latestOf}
 use Rattle.protocol.proofs.Pointwise.{stateAt}
 use Rattle.protocol.proofs.History.{undecided-earlier, crashed-later}
 use Rattle.protocol.proofs.Coordinator.{waits-below, coordinator-crashed, decided-since}
-use Rattle.protocol.proofs.CrashCount.{crashes-le, crashed-is-one, not-idle-crashed, crashes-at-least}
+use Rattle.protocol.proofs.CrashCount.{crashes-le, crashed-is-one, crashes-no-other, crashes-at-least}
 use Rattle.protocol.proofs.Ends.{end-at, decided-at}
 
 module _ (x : Instance) (formed : WellFormed x) where
   -- If a process waits after m rounds, at least m processes crash: the coordinators so far.
-  pub waits-for-crashes : (m p v : ℕ) → m ≤ suc (x .resilience) → IsProcess x p → stateAt x m p ≡ undecided v → m ≤ crashesOf x
+  pub waits-for-crashes : (m p v : ℕ) → m ≤ lastRound x → IsProcess x p → stateAt x m p ≡ undecided v → m ≤ crashesOf x
   waits-for-crashes m p v h process e = crashes-at-least x formed m (omega arith) ended
     where
       ended : (k : ℕ) → 1 ≤ k → k ≤ m → hasCrashed (endOf x k) ≡ 1
@@ -29,17 +29,16 @@ module _ (x : Instance) (formed : WellFormed x) where
           crashed-is-one _ j (end-at x formed k coordinator ∙ crashed-later x k _ k j (omega arith) c)
 
   pub terminates : Termination x (endOf x)
-  unfolding Termination
-  terminates p process up = by-state (stateAt x (suc (x .resilience)) p) refl
+  unfolding Termination CrashesNoOther
+  terminates p process up = by-state (stateAt x (lastRound x) p) refl
     where
-      at-end : endOf x p ≡ stateAt x (suc (x .resilience)) p
+      at-end : endOf x p ≡ stateAt x (lastRound x) p
       at-end = end-at x formed p process
 
-      by-state : (s : State) → stateAt x (suc (x .resilience)) p ≡ s → (r : ℕ) × (v : ℕ) × Decides x (endOf x) p r v
+      by-state : (s : State) → stateAt x (lastRound x) p ≡ s → (r : ℕ) × (v : ℕ) × Decides x (endOf x) p r v
       by-state (undecided v) e = absurd (let z : ⊥ = omega (arith, waits-for-crashes _ p v (omega arith) process e, crashes-le x formed) in z)
       by-state (decided r v) e = (r, v, record { process = process; state = at-end ∙ e })
-      by-state (crashed j) e =
-          absurd (up (record { process = process; notIdle = not-idle-crashed x formed p process ∙ crashed-is-one _ j (at-end ∙ e) }))
+      by-state (crashed j) e = absurd (up j (crashes-no-other x formed p j process (at-end ∙ e)))
 
   pub decides-early : DecidesBy (latestOf x) x (endOf x)
   unfolding DecidesBy latestOf

@@ -3,6 +3,7 @@ use mathlib.Core.Path.{_≡_, refl}
 use Prim.Native.Nat.{ℕ, zero, suc, _≤_}
 use native.Mathlib.Omega.{arith}
 use Rattle.protocol.specs.Instance.{Instance, proposalOf}
+use Rattle.protocol.specs.Run.{lastRound}
 use Rattle.protocol.specs.WellFormed.{WellFormed}
 use Rattle.protocol.specs.Consensus.{IsProcess, Validity, endOf}
 use Rattle.protocol.proofs.Pointwise.{stateAt}
@@ -24,4 +25,4 @@ holds-proposed x (suc r) p h process =
 pub decides-proposed : (x : Instance) → WellFormed x → Validity x (endOf x)
 unfolding Validity proposalOf
 decides-proposed x formed p r v d =
-    holds-decided (Proposed x) _ r v (decided-at x formed d) (holds-proposed x (suc (x .resilience)) p (omega arith) (d .process))
+    holds-decided (Proposed x) _ r v (decided-at x formed d) (holds-proposed x (lastRound x) p (omega arith) (d .process))

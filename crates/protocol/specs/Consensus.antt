@@ -2,11 +2,12 @@
 -- The claims are about how the processes of an instance end, by whatever protocol: `ends` gives the end of each process.
 use mathlib.Core.List.{List}
 use mathlib.Core.Path.{_≡_}
+use mathlib.Core.Bool.{false}
 use Prim.Native.Nat.{ℕ, suc, _≤_}
 use Rattle.general.specs.Indexed.{mapFrom}
 use Rattle.protocol.specs.Instance.{Instance, Fault, correct, crashes, CrashPoint, duringCommits, proposalOf, faultOf}
 use Rattle.protocol.specs.Round.{State, decided, crashed, stateOf}
-use Rattle.protocol.specs.CrashCount.{countsAsCrash, crashCount}
+use Rattle.protocol.specs.CrashCount.{isIdle, crashCount}
 use Rattle.protocol.specs.Run.{runOf, crashesOf}
 
 -- p is a process of the instance.
@@ -19,10 +20,12 @@ pub record Decides (x : Instance) (ends : ℕ → State) (p r v : ℕ) : Type 0 
   pub process : IsProcess x p
   pub state : ends p ≡ decided r v
 
--- Process p crashes undecided: it has a failure line, and the line is not idle.
-pub record CrashesUndecided (x : Instance) (ends : ℕ → State) (p : ℕ) : Type 0 where
+-- Process p crashes undecided, in round r: it has a failure line of that round, and the line is not idle (document 01, 'A round', last paragraph).
+pub record CrashesUndecided (x : Instance) (ends : ℕ → State) (p r : ℕ) : Type 0 where
   pub process : IsProcess x p
-  pub notIdle : countsAsCrash (faultOf x p) (ends p) ≡ 1
+  pub point : CrashPoint
+  pub line : faultOf x p ≡ crashes r point
+  pub notIdle : isIdle r (ends p) ≡ false
 
 -- Uniform agreement: all processes that decide, crashed later or not, decide one value.
 unfoldable pub Agreement : Instance → (ℕ → State) → Type 0
@@ -34,19 +37,18 @@ Validity x ends = (p r v : ℕ) → Decides x ends p r v → (q : ℕ) × IsProc
 
 -- Termination: every process that does not crash undecided decides.
 unfoldable pub Termination : Instance → (ℕ → State) → Type 0
-Termination x ends = (p : ℕ) → IsProcess x p → (CrashesUndecided x ends p → ⊥) → (r : ℕ) × (v : ℕ) × Decides x ends p r v
+Termination x ends = (p : ℕ) → IsProcess x p → ((r : ℕ) → CrashesUndecided x ends p r → ⊥) → (r : ℕ) × (v : ℕ) × Decides x ends p r v
 
 -- Early decision: none decides after this round.
 unfoldable pub DecidesBy : ℕ → Instance → (ℕ → State) → Type 0
 DecidesBy latest x ends = (p r v : ℕ) → Decides x ends p r v → r ≤ latest
 
--- A process crashes undecided exactly when it has a failure line that is not idle: it then ends crashed, in the round of that line, and no other process does.
+-- A process that crashes undecided ends crashed, in the round of its failure line, and no other process does.
 unfoldable pub CrashesAsSaid : Instance → (ℕ → State) → Type 0
-CrashesAsSaid x ends =
-    (p : ℕ) → CrashesUndecided x ends p → (r : ℕ) × (point : CrashPoint) × (faultOf x p ≡ crashes r point) × (ends p ≡ crashed r)
+CrashesAsSaid x ends = (p r : ℕ) → CrashesUndecided x ends p r → ends p ≡ crashed r
 
 unfoldable pub CrashesNoOther : Instance → (ℕ → State) → Type 0
-CrashesNoOther x ends = (p r : ℕ) → IsProcess x p → ends p ≡ crashed r → CrashesUndecided x ends p
+CrashesNoOther x ends = (p r : ℕ) → IsProcess x p → ends p ≡ crashed r → CrashesUndecided x ends p r
 
 -- Demand 3, first half.
 pub record UniformConsensus (latest : ℕ) (x : Instance) (ends : ℕ → State) : Type 0 where
@@ -61,7 +63,7 @@ pub record UniformConsensus (latest : ℕ) (x : Instance) (ends : ℕ → State)
 unfoldable pub endsOf : Instance → (ℕ → State) → List State
 endsOf x ends = mapFrom (λ p fault. ends p) 1 (x .pattern)
 
--- f counts the failure lines that are not idle (document 01, 'A round': 'It goes dark undecided exactly when it has a failure line that is not idle, and f counts these lines').
+-- f counts the failure lines that are not idle (document 01, 'A round': 'f counts the lines that are not idle').
 unfoldable pub CountsCrashes : ℕ → Instance → (ℕ → State) → Type 0
 CountsCrashes f x ends = f ≡ crashCount (x .pattern) (endsOf x ends)
 

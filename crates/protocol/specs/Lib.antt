@@ -11,3 +11,7 @@ pub mod Settling
 pub mod WellFormed
 pub mod Consensus
 pub mod SpeakerBound
+pub mod CountsReached
+pub mod WorkedTable
+pub mod WorkedRuns
+pub mod Impostors

@@ -41,9 +41,13 @@ unfoldable pub runTo : Instance → ℕ → Run
 runTo x zero = initial x
 runTo x (suc r) = withRound x (suc r) (runTo x r)
 
--- The whole run: t + 1 rounds.
+-- The last round that a run may have: t + 1.
+abbrev pub lastRound : Instance → ℕ
+lastRound x = suc (x .resilience)
+
+-- The whole run.
 unfoldable pub runOf : Instance → Run
-runOf x = runTo x (suc (x .resilience))
+runOf x = runTo x (lastRound x)
 
 -- f of a whole run: the failure lines that are not idle in it.
 unfoldable pub crashesOf : Instance → ℕ

@@ -1,11 +1,13 @@
 -- What is counted of a process, one law for each answer of the code over plain numbers: its premises are the tests that lead there. Assumes nothing.
-use mathlib.Core.Path.{_≡_, refl}
+use mathlib.Core.Path.{_≡_, refl, sym, _∙_}
 use Prim.Native.Nat.{ℕ, _≤_, _<_}
 use mathlib.Core.Bool.{Bool, true, false, cond}
 use native.Mathlib.Omega.{arith}
 use lib.Dec.{eqb}
+use lib.ListN.{length}
 use borrow.Author.Tests.{eqb-false, eq-eqb, ne-eqb, lt-ltb, le-ltb}
-use Rattle.general.specs.Bits.{ones64}
+use Rattle.general.specs.Bits.{membersTo}
+use Rattle.general.proofs.Bits.{ones64-members}
 use Rattle.protocol.specs.Instance.{Fault, CrashPoint, beforeSending, duringData, duringCommits, pointFrom}
 use Rattle.protocol.specs.Round.{undecided, crashed}
 use Rattle.protocol.specs.Undecided.{isUndecided}
@@ -31,9 +33,9 @@ module _ (whole step set count : ℕ) where
   unfolding dataAt pointFrom
   data-step-0 h = rw h
 
-  pub data-step-1 : step ≡ 1 → (k : ℕ) → k ≡ ones64 set → k ≡ dataAt whole (pointFrom step set count)
+  pub data-step-1 : step ≡ 1 → (k : ℕ) → k ≡ length (membersTo 64 set) → k ≡ dataAt whole (pointFrom step set count)
   unfolding dataAt pointFrom
-  data-step-1 h k e = rw h e
+  data-step-1 h k e = rw h (e ∙ sym (ones64-members set))
 
   pub data-step-2 : (step ≡ 0 → ⊥) → (step ≡ 1 → ⊥) → whole ≡ dataAt whole (pointFrom step set count)
   unfolding dataAt pointFrom

@@ -3,7 +3,7 @@ ghost use mathlib.Core.Path.{_≡_};
 ghost use mathlib.Core.Bool.{cond};
 ghost use Prim.Native.Nat.{ℕ, _-_, _≤_};
 ghost use lib.ListN.{length};
-ghost use Rattle.general.specs.Bits.{ones64, membersTo};
+ghost use Rattle.general.specs.Bits.{membersTo};
 ghost use Rattle.protocol.specs.Undecided.{isUndecided};
 ghost use Rattle.protocol.specs.Count.{dataAt, commitsAt, countIn};
 ghost use Rattle.protocol.specs.CrashCount.{countsAsCrash};
@@ -12,10 +12,9 @@ ghost use Rattle.transitions.specs.Entries.{entryState, entryFault};
 use crate::Entry;
 use crate::FaultEntry;
 
-// How many processes are in a set, by the count of ones.
+// How many processes are in a set: the count of ones is the length of the list of members.
 fn size(reached: u64) -> u8
-    ensures ones { λ k. ⌜ k ≡ ones64 reached ⌝ }
-    ensures members { λ k. ⌜ k ≡ length (membersTo 64 reached) ⌝ }
+    ensures { λ k. ⌜ k ≡ length (membersTo 64 reached) ⌝ }
 {
     u64::count_ones(reached) as u8
 }

@@ -15,7 +15,7 @@ size-requires : tie.Need-size-requires
 size-requires c κs = search needs
 
 returns-3 : tie.Need-returns-3
-returns-3 c = sends-some _ _ _ _ _ _ _ (omega arith) (omega arith) _ (data-step-1 _ _ _ _ (omega arith) _ (c .size .ensures .0))
+returns-3 c = sends-some _ _ _ _ _ _ _ (omega arith) (omega arith) _ (data-step-1 _ _ _ _ (omega arith) _ (c .size .ensures))
 
 returns-4 : tie.Need-returns-4
 returns-4 c = sends-some _ _ _ _ _ _ _ (omega arith) (omega arith) _ (data-step-2 _ _ _ _ (search needs) (search needs))

@@ -1,8 +1,7 @@
--- `transitions::count::size` meets its contract: the language's count is that of the definitions, and of the list of members. Assumes nothing.
-use mathlib.Core.Path.{sym}
+-- `transitions::count::size` meets its contract: the language's count is that of the list of members. Assumes nothing.
 use native.Mathlib.Omega.{arith}
 use lib.Count.{ones-le}
-use Rattle.general.proofs.Bits.{ones64-ones, word-members}
+use Rattle.general.proofs.Bits.{word-members}
 use Rattle.transitions.proofs.count.size.Statement.{statement}
 use Rattle.transitions.proofs.count.size.Tie as tie
 
@@ -10,7 +9,7 @@ cast-result : tie.Need-cast-result
 cast-result c = omega (arith, ones-le 64 (c .args .reached) (c .fits .reached .fits))
 
 returns : tie.Need-returns
-returns c = (sym (ones64-ones (c .args .reached) (c .fits .reached .fits)), word-members (c .args .reached) (c .fits .reached .fits))
+returns c = word-members (c .args .reached) (c .fits .reached .fits)
 
 pub size-spec : {M : Type 1} → statement M
 size-spec = tie.close (tie.spec cast-result returns)
