@@ -79,8 +79,8 @@ impl fmt::Display for Claim {
 }
 
 impl Claim {
-    /// Whether the claim holds of a run by itself. Two runs are
-    /// [`no_later`]'s, and worked cases [`answer`]'s.
+    /// Whether the claim holds of a run. Of a run by itself the pair and the
+    /// worked cases say nothing: see [`no_later`] and [`answer`].
     pub fn holds(self, ticket: &Ticket, run: &Run, rules: &Rules) -> bool {
         match self {
             Claim::Agreement => decisions(run).all(|(_, v)| decisions(run).all(|(_, w)| v == w)),

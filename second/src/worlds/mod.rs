@@ -3,11 +3,13 @@
 //!
 //! The gate refuses an edit of a definition because a proof no longer goes
 //! through. Whether the claim is false in that world is another question, and
-//! it is answered here: a [`model`] of the rounds is run under [`rules`] of
-//! which one is wrong, and the [`search`] looks for a counterexample to each of
-//! the [`claims`] among all tickets of at most four processes. Under the right
-//! rules the model agrees with the second implementation, and there is none.
-//! `wrong-worlds` prints the table.
+//! it is answered here: a [`model`] of the rounds is run under [`rules`] with a
+//! wrong one among them, and the [`search`] looks for a counterexample to each
+//! of the [`claims`] among all tickets of at most four processes. The rules are
+//! cut as the gate's edits need them, so the model stands beside the second
+//! implementation; under the right rules the two agree, and no claim has a
+//! counterexample. `tests/wrong_worlds.rs` holds all of this, and `wrong-worlds`
+//! prints the counterexamples.
 
 pub mod claims;
 pub mod model;
@@ -23,9 +25,9 @@ use rules::Rules;
 pub struct World {
     /// The edit crates/CRATE/must-fail/NAME.edit, as CRATE/NAME.
     pub name: &'static str,
-    /// The rules, one of them wrong.
+    /// The rules, with a wrong one among them.
     pub rules: Rules,
-    /// The claims that fail; the one that the edit aims at comes first. A
-    /// worked case stands here only if no claim fails.
+    /// All claims that fail; the one that the edit aims at comes first. A worked
+    /// case stands here only if no claim fails.
     pub breaks: &'static [Claim],
 }

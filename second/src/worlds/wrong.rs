@@ -46,12 +46,11 @@ const ROUNDS: &[World] = &[
         "protocol/commits-leave-before-the-data",
         &[Agreement, NoLater, LastRoundSettles],
         Rules {
-            reach_of_crashing: |sending, crash, to| match (
-                crash,
-                right::reach_of_crashing(sending, crash, to),
+            reach_of_crashing: |sending, crash, to| match right::reach_of_crashing(
+                sending, crash, to,
             ) {
-                (Crash::SendingCommits { .. }, Reach::Data) => Reach::None,
-                (_, reach) => reach,
+                Reach::Data if right::is_commit_line(Some(crash)) => Reach::None,
+                reach => reach,
             },
             ..RIGHT
         },
@@ -150,11 +149,16 @@ const MISTAKES: &[World] = &[
     ),
 ];
 
-/// How far the messages of a coordinator get that sends its commits otherwise:
-/// `reaches` says whether the commit is among so many.
-fn commits_reach(sending: &Sending, crash: Crash, to: u8, reaches: impl Fn(u8) -> bool) -> Reach {
+/// How far messages to process `to` get if the commits go out in another order:
+/// `among_first` says whether its commit is one of the first so many.
+fn commits_reach(
+    sending: &Sending,
+    crash: Crash,
+    to: u8,
+    among_first: impl Fn(u8) -> bool,
+) -> Reach {
     match crash {
-        Crash::SendingCommits { sent } if reaches(sent) => Reach::All,
+        Crash::SendingCommits { sent } if among_first(sent) => Reach::All,
         Crash::SendingCommits { .. } => Reach::Data,
         _ => right::reach_of_crashing(sending, crash, to),
     }
@@ -319,6 +323,22 @@ const COUNTS: &[World] = &[
             },
             ..RIGHT
         },
+    ),
+    world(
+        "transitions/ones-of-another-set",
+        &[MessagesWithinBound, CountsOfTheRun],
+        Rules {
+            data_sent: |n, round, crash| match crash {
+                Some(Crash::SendingData { .. }) => 64,
+                _ => right::data_sent(n, round, crash),
+            },
+            ..RIGHT
+        },
+    ),
+    world(
+        "rounds/rounds-not-counted",
+        &[CountsOfTheRun, LastRoundSettles],
+        Rules { rounds: |_, _, _| 0, ..RIGHT },
     ),
     world(
         "protocol/crashed-processes-hold-values",
