@@ -3,6 +3,7 @@
 # make test               everything from nothing: proofs, must-fail edits, programs, and the evidence beyond the proofs
 # make vectors            compute the definitions on every vector of tests/vectors/
 # make unused             list definitions, lemmas and imports that nothing uses
+# make wrong-worlds       wrong rules of the protocol, and a counterexample to each claim that fails under them
 # make compare            the proved library against the second implementation: SEED=1 COUNT=1000000
 # make bench              speed of both
 # make fuzz               a coverage-guided fuzzer over the C interface: SECONDS=60
@@ -23,7 +24,7 @@ SECOND = cd second && CARGO_TARGET_DIR=../target/second AGREEMENT_LIB_DIR=$(CURD
 COVERAGE_FLAGS = -Cpasses=sancov-module -Cllvm-args=-sanitizer-coverage-level=3 -Cllvm-args=-sanitizer-coverage-inline-8bit-counters \
   -Cllvm-args=-sanitizer-coverage-pc-table -Cllvm-args=-sanitizer-coverage-trace-compares
 
-.PHONY: all prove run test vectors unused second-test host-test compare compare-short bench fuzz pictures install
+.PHONY: all prove run test vectors unused second-test wrong-worlds host-test compare compare-short bench fuzz pictures install
 
 all: prove $(LIBRARY) target/bin/host
 
@@ -66,6 +67,9 @@ unused:
 
 second-test:
 	$(SECOND) test --quiet
+
+wrong-worlds:
+	@$(SECOND) run --quiet --bin wrong-worlds
 
 compare: $(LIBRARY)
 	$(SECOND) run --quiet --release -p against --bin compare -- --seed $(SEED) --count $(COUNT)

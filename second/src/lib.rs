@@ -14,8 +14,9 @@
 //!
 //! The paper's stations, desks and frames are processes and messages here, and
 //! a process that goes dark has crashed, as in document 001.
-//! [`generate`] and [`corpus`] make tickets to try implementations on, and
-//! [`interface`] is what the implementations have in common.
+//! [`generate`], [`patterns`] and [`corpus`] make tickets to try implementations
+//! on, and [`interface`] is what the implementations have in common. [`worlds`]
+//! changes the rules one at a time and shows which claims fail then.
 
 #![forbid(unsafe_code)]
 #![warn(missing_docs)]
@@ -25,6 +26,7 @@ pub mod generate;
 pub mod interface;
 pub mod lines;
 pub mod local;
+pub mod patterns;
 pub mod process;
 pub mod refusal;
 pub mod report;
@@ -34,6 +36,7 @@ pub mod simulation;
 pub mod switch;
 pub mod ticket;
 pub mod worked;
+pub mod worlds;
 
 mod simulator;
 

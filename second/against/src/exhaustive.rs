@@ -2,8 +2,9 @@
 
 use second::interface::Agreement;
 use second::local::{SPEECH_LENGTH, STATE_LENGTH};
+use second::patterns::failure_patterns;
 use second::ticket::MOST_PROCESSES;
-use second::{Failure, Ticket};
+use second::Ticket;
 
 use crate::comparison::{rooms_around, Comparison, Difference};
 
@@ -33,37 +34,6 @@ fn proposals(n: u8) -> Vec<Vec<u32>> {
     });
     let different = (1..=u32::from(n)).map(|process| 10 * process).collect();
     two_values.chain([different]).collect()
-}
-
-/// Every accepted failure pattern.
-pub fn failure_patterns(n: u8, t: u8) -> Vec<Vec<Failure>> {
-    let mut patterns = vec![Vec::new()];
-    for process in 1..=n {
-        let failures = failures_of(process, n, t);
-        let mut longer = Vec::new();
-        for pattern in patterns.iter().filter(|pattern| pattern.len() < usize::from(t)) {
-            for &failure in &failures {
-                longer.push([&pattern[..], &[failure]].concat());
-            }
-        }
-        patterns.extend(longer);
-    }
-    patterns
-}
-
-/// Every way in which `process` may crash.
-fn failures_of(process: u8, n: u8, t: u8) -> Vec<Failure> {
-    let rounds = 1..=t + 1;
-    let coordinates = rounds.contains(&process);
-    let mut failures: Vec<Failure> =
-        rounds.map(|round| Failure::before_sending(process, round)).collect();
-    if coordinates {
-        let subsets = 0..1 << (n - process);
-        failures
-            .extend(subsets.map(|subset: u64| Failure::sending_data(process, subset << process)));
-        failures.extend((0..=n - process).map(|sent| Failure::sending_commits(process, sent)));
-    }
-    failures
 }
 
 /// A ticket of each n with output buffers of every length up to its result's
@@ -161,28 +131,4 @@ fn speak_and_close<M: Agreement>(
     }
     comparison.close(state, &[0x22, round])?;
     comparison.close(state, &[0x22, round, 0x21, round, 1, 2, 3, 4])
-}
-
-#[cfg(test)]
-mod tests {
-    use super::*;
-
-    #[test]
-    fn every_pattern_is_accepted_and_no_pattern_comes_twice() {
-        let mut counts = Vec::new();
-        for t in 0..4 {
-            let patterns = failure_patterns(4, t);
-            let distinct: std::collections::HashSet<_> = patterns.iter().collect();
-            assert_eq!(distinct.len(), patterns.len());
-            for failures in &patterns {
-                let failures = failures.clone();
-                let ticket = Ticket { n: 4, t, proposals: vec![0; 4], failures };
-                assert_eq!(Ticket::parse(&ticket.text()), Ok(ticket));
-            }
-            counts.push(patterns.len());
-        }
-        // For t = 3 the four processes have 16, 11, 8 and 6 ways to crash.
-        let all_but_four_crashes = 17 * 12 * 9 * 7 - 16 * 11 * 8 * 6;
-        assert_eq!((counts[0], counts[3]), (1, all_but_four_crashes));
-    }
 }

@@ -1,0 +1,218 @@
+//! The rounds as a small model: what every process becomes in a round, as a
+//! function of all states before it, under [`Rules`] that can be wrong.
+
+use super::rules::Rules;
+use crate::ticket::{Failure, Ticket};
+
+/// A process between two rounds.
+#[derive(Clone, Copy, Debug, PartialEq, Eq)]
+pub enum State {
+    /// Up and undecided, with its estimate.
+    Undecided(u32),
+    /// Decided in this round on this value.
+    Decided(u8, u32),
+    /// Crashed undecided in this round.
+    Crashed(u8),
+}
+
+/// What a process receives in a round.
+#[derive(Clone, Copy, Debug, PartialEq, Eq)]
+pub enum Heard {
+    /// No message.
+    Nothing,
+    /// The coordinator's estimate.
+    Estimate(u32),
+    /// The estimate and the commit.
+    EstimateAndCommit(u32),
+}
+
+/// How far a coordinator's messages get to one process.
+#[derive(Clone, Copy, Debug, PartialEq, Eq)]
+pub enum Reach {
+    /// Neither arrives.
+    None,
+    /// The data message alone arrives.
+    Data,
+    /// Data and commit arrive.
+    All,
+}
+
+/// What sending looks at besides the coordinator's own failure line.
+#[derive(Clone, Copy, Debug)]
+pub struct Sending {
+    /// How many processes there are.
+    pub n: u8,
+    /// The round.
+    pub round: u8,
+    /// The processes that have crashed or crash in this round; bit j − 1
+    /// stands for process j.
+    pub crashed: u64,
+}
+
+/// One undecided process at the end of a round.
+#[derive(Clone, Copy, Debug)]
+pub struct Step {
+    /// The round.
+    pub round: u8,
+    /// The process.
+    pub process: u8,
+    /// The estimate with which it began the round.
+    pub estimate: u32,
+    /// What it receives in the round.
+    pub heard: Heard,
+}
+
+impl Step {
+    /// Whether the process coordinates the round.
+    pub fn coordinates(&self) -> bool {
+        self.process == self.round
+    }
+
+    /// The state of a process that decides `value` in this round.
+    pub fn decides(&self, value: u32) -> State {
+        State::Decided(self.round, value)
+    }
+}
+
+/// What is counted of a run.
+#[derive(Clone, Copy, Debug, Default, PartialEq, Eq)]
+pub struct Counts {
+    /// The last round that began with a process up and undecided.
+    pub rounds: u8,
+    /// Coordinators that began their own round up and undecided.
+    pub speakers: u64,
+    /// Data messages sent.
+    pub data: u64,
+    /// Commits sent.
+    pub commits: u64,
+}
+
+/// A whole run.
+#[derive(Clone, Debug)]
+pub struct Run {
+    /// How many processes there are.
+    pub n: u8,
+    /// The failure line of each process, from process 1 on.
+    pub faults: Vec<Option<Failure>>,
+    /// The states before round 1 and after each round.
+    pub history: Vec<Vec<State>>,
+    /// The counts.
+    pub counts: Counts,
+    /// f: the failure lines that count as a crash.
+    pub f: u8,
+}
+
+impl Run {
+    /// The run of `ticket` under `rules`.
+    pub fn new(ticket: &Ticket, rules: &Rules) -> Run {
+        let mut faults = vec![None; usize::from(ticket.n)];
+        for failure in &ticket.failures {
+            faults[usize::from(failure.process) - 1] = Some(*failure);
+        }
+        let initial = ticket.proposals.iter().map(|&proposal| (rules.initial)(proposal));
+        let history = vec![initial.collect()];
+        let mut run = Run { n: ticket.n, faults, history, counts: Counts::default(), f: 0 };
+        for round in 1..=(rules.last_round)(ticket.t) {
+            let states = run.states_after((rules.round_run)(round), run.ends(), rules);
+            run.history.push(states);
+        }
+        run.counts = run.counts(rules);
+        run.f = run.lines_that_count(run.ends(), rules);
+        run
+    }
+
+    /// The last state of each process.
+    pub fn ends(&self) -> &[State] {
+        self.history.last().expect("the states before round 1 at least")
+    }
+
+    /// How many failure lines count as a crash, if the processes end so.
+    pub fn lines_that_count(&self, ends: &[State], rules: &Rules) -> u8 {
+        let counts = |(fault, &end): (&Option<Failure>, &State)| {
+            fault.is_some_and(|failure| (rules.counts_as_crash)(failure.round, end))
+        };
+        self.faults.iter().zip(ends).filter(|&line| counts(line)).count() as u8
+    }
+
+    fn fault(&self, process: u8) -> Option<Failure> {
+        self.faults[usize::from(process) - 1]
+    }
+
+    fn crashes_in(&self, round: u8, process: u8) -> bool {
+        self.fault(process).is_some_and(|failure| failure.round == round)
+    }
+
+    /// What all processes become in `round`.
+    fn states_after(&self, round: u8, states: &[State], rules: &Rules) -> Vec<State> {
+        let coordinator = (rules.coordinator)(round, self.n);
+        let sent_by = states[usize::from(coordinator) - 1];
+        let crashed = self.crashed_by(round, states);
+        let sending = Sending { n: self.n, round, crashed };
+        let after = |(process, &state): (u8, &State)| {
+            let State::Undecided(estimate) = state else {
+                return state;
+            };
+            let reach = reach(&sending, self.fault(coordinator), process, rules);
+            let heard = (rules.hears)(reach, sent_by);
+            let step = Step { round, process, estimate, heard };
+            let crashes = self.crashes_in(round, process);
+            (if crashes { rules.crashes } else { rules.receives })(&step)
+        };
+        (1..).zip(states).map(after).collect()
+    }
+
+    /// The set of processes that have crashed or crash in `round`.
+    fn crashed_by(&self, round: u8, states: &[State]) -> u64 {
+        let crashed = |&(process, state): &(u8, &State)| match state {
+            State::Undecided(_) => self.crashes_in(round, process),
+            State::Decided(..) => false,
+            State::Crashed(_) => true,
+        };
+        (1..).zip(states).filter(crashed).fold(0, |set, (process, _)| set | 1 << (process - 1))
+    }
+
+    /// What `rules` count of this run's rounds.
+    pub fn counts(&self, rules: &Rules) -> Counts {
+        let mut counts = Counts::default();
+        let last = self.history.len() as u8 - 1;
+        for (round, states) in (1..=last).map(rules.round_run).zip(&self.history) {
+            let goes_on = states.iter().any(|&state| (rules.is_undecided)(state));
+            counts.rounds = (rules.rounds)(goes_on, round, counts.rounds);
+            let coordinator = (rules.coordinator)(round, self.n);
+            if (rules.speaks)(states[usize::from(coordinator) - 1]) {
+                let line = self.fault(coordinator).filter(|failure| failure.round == round);
+                let crash = line.map(|failure| failure.crash);
+                counts.speakers += 1;
+                counts.data += (rules.data_sent)(self.n, round, crash);
+                counts.commits += (rules.commits_sent)(self.n, round, crash);
+            }
+        }
+        counts
+    }
+
+    /// The rounds that qualify for settling, in order.
+    pub fn settling_rounds(&self, rules: &Rules) -> Vec<u8> {
+        let last = self.counts.rounds;
+        let one_value = |&round: &u8| {
+            let states = self.history[usize::from(round)].iter();
+            let mut values = states.filter_map(|&state| (rules.value_held)(state));
+            let first = values.next();
+            values.all(|value| Some(value) == first)
+        };
+        (1..=last).filter(|&round| (rules.may_settle)(round, last)).filter(one_value).collect()
+    }
+}
+
+/// How far the messages of a coordinator with this fault get to process `to`.
+fn reach(sending: &Sending, fault: Option<Failure>, to: u8, rules: &Rules) -> Reach {
+    if to <= sending.round {
+        return Reach::None;
+    }
+    match fault {
+        None => Reach::All,
+        Some(failure) if failure.round == sending.round => {
+            (rules.reach_of_crashing)(sending, failure.crash, to)
+        }
+        Some(_) => rules.reach_in_another_round,
+    }
+}

@@ -1,0 +1,185 @@
+//! The rules that a world is made of, and the right ones.
+
+use super::model::{Heard, Reach, Run, Sending, State, Step};
+use crate::ticket::Crash;
+
+/// The rules of a world: which failure patterns there are, what happens in a
+/// round, what is counted, and what is claimed.
+#[derive(Clone, Copy, Debug)]
+pub struct Rules {
+    /// How many failure lines there may be, from t.
+    pub most_failures: fn(u8) -> u8,
+    /// Whether a process may crash while sending commits in a round.
+    pub commit_step_in: fn(process: u8, round: u8) -> bool,
+
+    /// The state before round 1, from the proposal.
+    pub initial: fn(u32) -> State,
+    /// The last round that is run, from t.
+    pub last_round: fn(u8) -> u8,
+    /// Which round is run as round r.
+    pub round_run: fn(u8) -> u8,
+    /// The process whose state and failure line the messages of a round go by.
+    pub coordinator: fn(round: u8, n: u8) -> u8,
+    /// How far messages to a process get from a coordinator that crashes so.
+    pub reach_of_crashing: fn(&Sending, Crash, to: u8) -> Reach,
+    /// How far they get if the failure line is of another round.
+    pub reach_in_another_round: Reach,
+    /// What a process hears of a coordinator that began the round in a state.
+    pub hears: fn(Reach, State) -> Heard,
+    /// What an undecided process becomes that does not crash in the round.
+    pub receives: fn(&Step) -> State,
+    /// What one becomes that does.
+    pub crashes: fn(&Step) -> State,
+
+    /// Whether a process in this state keeps the run going.
+    pub is_undecided: fn(State) -> bool,
+    /// The run's rounds, from whether a round began with an undecided process.
+    pub rounds: fn(goes_on: bool, round: u8, before: u8) -> u8,
+    /// Whether a coordinator that begins its round in this state is a speaker.
+    pub speaks: fn(State) -> bool,
+    /// The data messages of a speaker that crashes so in its round, or does not.
+    pub data_sent: fn(n: u8, round: u8, Option<Crash>) -> u64,
+    /// Its commits.
+    pub commits_sent: fn(n: u8, round: u8, Option<Crash>) -> u64,
+    /// Whether a failure line of a round counts in f, from its process's end.
+    pub counts_as_crash: fn(round: u8, State) -> bool,
+    /// The value that a process holds for settling.
+    pub value_held: fn(State) -> Option<u32>,
+    /// Whether a round may settle a run that has so many.
+    pub may_settle: fn(round: u8, rounds: u8) -> bool,
+
+    /// Claim: the last round in which a process may decide, from f.
+    pub latest: fn(u8) -> u8,
+    /// Claim: f, from how many processes end crashed.
+    pub f_of_crashed: fn(u8) -> u8,
+    /// Claim: the process whose end is the first that f is held to.
+    pub ends_from: u8,
+    /// Claim: the most speakers, from f.
+    pub most_speakers: fn(u8) -> u64,
+    /// Claim: the most messages of a run.
+    pub most_messages: fn(&Run) -> u64,
+    /// Pair: whether these counts of commits may stand in first and second.
+    pub counts_paired: fn(first: u8, second: u8) -> bool,
+    /// Pair: whether a failure line may stand in one of the two alone.
+    pub line_in_one: fn(first: Option<Crash>, second: Option<Crash>) -> bool,
+    /// Pair: whether the proposals of the second may differ.
+    pub proposals_differ: bool,
+    /// Pair: whether a process that decides in this round of the first may
+    /// decide in that round of the second.
+    pub no_later: fn(first: u8, second: u8) -> bool,
+}
+
+/// The right rules (01, "The ticket" and "A round"; demand 3).
+pub const RIGHT: Rules = Rules {
+    most_failures: |t| t,
+    commit_step_in: |process, round| process == round,
+    initial: State::Undecided,
+    last_round: |t| t + 1,
+    round_run: |round| round,
+    coordinator: |round, _| round,
+    reach_of_crashing: right::reach_of_crashing,
+    reach_in_another_round: Reach::All,
+    hears: right::hears,
+    receives: right::receives,
+    crashes: |step| State::Crashed(step.round),
+    is_undecided: right::is_undecided,
+    rounds: |goes_on, round, before| if goes_on { round } else { before },
+    speaks: right::is_undecided,
+    data_sent: right::data_sent,
+    commits_sent: right::commits_sent,
+    counts_as_crash: right::counts_as_crash,
+    value_held: right::value_held,
+    may_settle: |_, _| true,
+    latest: |f| f + 1,
+    f_of_crashed: |crashed| crashed,
+    ends_from: 1,
+    most_speakers: |f| u64::from(f) + 1,
+    most_messages: |run| right::bound_by_speakers(run.n, run.counts.speakers),
+    counts_paired: |first, second| first <= second,
+    line_in_one: |first, second| right::is_commit_line(first) && second.is_none(),
+    proposals_differ: false,
+    no_later: |first, second| second <= first,
+};
+
+/// The right rules that take more than a line.
+pub mod right {
+    use super::*;
+
+    /// Commits go to process n first and then downward.
+    pub fn reach_of_crashing(sending: &Sending, crash: Crash, to: u8) -> Reach {
+        match crash {
+            Crash::BeforeSending => Reach::None,
+            Crash::SendingData { reached } if reached >> (to - 1) & 1 == 1 => Reach::Data,
+            Crash::SendingData { .. } => Reach::None,
+            Crash::SendingCommits { sent } if sending.n < to + sent => Reach::All,
+            Crash::SendingCommits { .. } => Reach::Data,
+        }
+    }
+
+    /// A coordinator that has decided or crashed sends nothing.
+    pub fn hears(reach: Reach, coordinator: State) -> Heard {
+        match (reach, coordinator) {
+            (Reach::Data, State::Undecided(value)) => Heard::Estimate(value),
+            (Reach::All, State::Undecided(value)) => Heard::EstimateAndCommit(value),
+            _ => Heard::Nothing,
+        }
+    }
+
+    /// A coordinator decides its estimate; another process adopts what it
+    /// hears, and decides it if the commit comes too.
+    pub fn receives(step: &Step) -> State {
+        match step.heard {
+            _ if step.coordinates() => step.decides(step.estimate),
+            Heard::Nothing => State::Undecided(step.estimate),
+            Heard::Estimate(value) => State::Undecided(value),
+            Heard::EstimateAndCommit(value) => step.decides(value),
+        }
+    }
+
+    /// Up and undecided.
+    pub fn is_undecided(state: State) -> bool {
+        matches!(state, State::Undecided(_))
+    }
+
+    /// n − r, or the ones of the set, or none.
+    pub fn data_sent(n: u8, round: u8, crash: Option<Crash>) -> u64 {
+        match crash {
+            None | Some(Crash::SendingCommits { .. }) => u64::from(n - round),
+            Some(Crash::SendingData { reached }) => u64::from(reached.count_ones()),
+            Some(Crash::BeforeSending) => 0,
+        }
+    }
+
+    /// n − r, or the count, or none.
+    pub fn commits_sent(n: u8, round: u8, crash: Option<Crash>) -> u64 {
+        match crash {
+            None => u64::from(n - round),
+            Some(Crash::SendingCommits { sent }) => u64::from(sent),
+            Some(Crash::BeforeSending | Crash::SendingData { .. }) => 0,
+        }
+    }
+
+    /// A line is idle if its process decided in an earlier round.
+    pub fn counts_as_crash(round: u8, end: State) -> bool {
+        !matches!(end, State::Decided(decided, _) if decided < round)
+    }
+
+    /// Crashed processes hold none.
+    pub fn value_held(state: State) -> Option<u32> {
+        match state {
+            State::Undecided(value) | State::Decided(_, value) => Some(value),
+            State::Crashed(_) => None,
+        }
+    }
+
+    /// k(2n − k − 1) − k(k − 1)/2.
+    pub fn bound_by_speakers(n: u8, k: u64) -> u64 {
+        let full = k * (2 * u64::from(n)).saturating_sub(k + 1);
+        full.saturating_sub(k * k.saturating_sub(1) / 2)
+    }
+
+    /// Whether a crash is in the commit step.
+    pub fn is_commit_line(crash: Option<Crash>) -> bool {
+        matches!(crash, Some(Crash::SendingCommits { .. }))
+    }
+}
