@@ -4,8 +4,8 @@
  * The coordinator-based protocol of document 001, as condensed in document 01, in five calls. Running and settling
  * simulate a ticket; start, speak and close are the process part, which a host calls for one process of its own.
  * (Document 01 says desk or station for process, and dark for crashed.) What each call takes and answers stands at its
- * prototype; the formats, the host's obligations and the refusals stand before them. docs/FORMATS.md has the formats
- * field by field, with one ticket annotated.
+ * prototype; the formats, the host's obligations and the refusals stand before them.
+ * FORMATS.md (in docs/; installed in share/agreement/) has the formats field by field, with one ticket annotated.
  *
  * LIFETIMES AND THREADS
  *   The library keeps nothing between calls, allocates nothing and reads no clock. It touches only the bytes that a
