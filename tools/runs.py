@@ -8,6 +8,7 @@ result, which says who had decided or crashed when; and `contradictions` says wh
 
 from __future__ import annotations
 
+import functools
 import os
 import re
 import subprocess
@@ -20,7 +21,8 @@ PROGRAMS = ["../target/bin/simulate", "../../bin/simulate"]
 
 HEADER, PROPOSAL, FAILURE, END = 0x01, 0x02, 0x03, 0x04
 PROCESS, LAST, REFUSAL = 0x11, 0x12, 0x1F
-LENGTHS = {HEADER: 3, PROPOSAL: 6, FAILURE: 13, END: 1, PROCESS: 8, LAST: 8, REFUSAL: 4}
+LENGTHS = {HEADER: 3, PROPOSAL: 6, FAILURE: 13, END: 1, REFUSAL: 4}  # in bytes; those of a result are the header's
+RESULT_LINES = {PROCESS: "UC_PROCESS_LINE_BYTES", LAST: "UC_LAST_LINE_BYTES"}
 DECIDED, CRASHED = 1, 2
 BEFORE_SENDING, DURING_DATA, DURING_COMMITS = 0, 1, 2
 DATA, COMMIT = "data", "commit"
@@ -40,6 +42,7 @@ def beside(names, what):
     raise Unusable(f"{what} is missing: {os.path.normpath(os.path.join(HERE, names[0]))}")
 
 
+@functools.lru_cache(None)
 def header_text():
     with open(beside(HEADERS, "the header"), encoding="utf-8") as file:
         return file.read()
@@ -48,6 +51,23 @@ def header_text():
 def refusal_texts():
     """The header's table of refusals, the only one there is."""
     return {int(number): text for number, text in re.findall(r'^\s+X\((\d+), "([^"]*)"\)', header_text(), re.M)}
+
+
+def header_number(name):
+    """A number that the header defines."""
+    found = re.search(rf"^#define {name} (\d+)$", header_text(), re.M)
+    if not found:
+        raise Unusable(f"the header does not define {name}")
+    return int(found.group(1))
+
+
+def length_of(kind):
+    """How many bytes a line of that kind has: two digits each, and the 0A that the header counts too."""
+    return (header_number(RESULT_LINES[kind]) - 1) // 2 if kind in RESULT_LINES else LENGTHS[kind]
+
+
+def largest_result():
+    return header_number(RESULT_LINES[PROCESS]) * MOST_PROCESSES + header_number(RESULT_LINES[LAST])
 
 
 def number(data):
@@ -98,8 +118,8 @@ def decoded(line):
 def expected(lines, index, kind):
     """The bytes of a line that must be there, of that kind."""
     data = decoded(lines[index]) if index < len(lines) else None
-    if data is None or data[0] != kind or len(data) != LENGTHS[kind]:
-        raise Unusable(f"line {index + 1} is not a line {kind:02X} of {LENGTHS[kind]} bytes")
+    if data is None or data[0] != kind or len(data) != length_of(kind):
+        raise Unusable(f"line {index + 1} is not a line {kind:02X} of {length_of(kind)} bytes")
     return data
 
 
