@@ -89,6 +89,25 @@
  *      sends nothing more, and frames to it are dropped.
  *   9. A process that stops, for whatever reason, stays out. One that a host cannot go on with counts as crashed: after a
  *      refusal 12 it must not be closed on nothing instead, and a state read back after a loss of power is not used.
+ *
+ *   One round of one process, in a host of its own (send, sent, heard_in, stop and decided are the
+ *   host's):
+ *
+ *       uint8_t speech[UC_SPEECH_BYTES], heard[UC_SPEECH_BYTES];
+ *       unsigned r = state[UC_STATE_ROUND];
+ *       if (uc_speak(state, UC_STATE_BYTES, speech, sizeof speech) == UC_SPEECH_BYTES) {
+ *           for (unsigned p = r + 1; p <= n; p++)
+ *               send(p, speech, UC_DATA_BYTES);
+ *           for (unsigned p = n; p > r; p--)
+ *               send(p, speech + UC_DATA_BYTES, UC_COMMIT_BYTES);
+ *           sent();                                        waits until the last of them has left
+ *       }
+ *       size_t length = heard_in(r, heard);                waits until the round is over for all; 0, 6 or 8 bytes
+ *       uint64_t answer = uc_close(state, UC_STATE_BYTES, heard, length);
+ *       if (uc_close_refusal(answer))
+ *           stop(uc_refusal_text(uc_close_refusal(answer)));
+ *       if (state[UC_STATE_MARK] == UC_MARK_DECIDED)
+ *           decided(uc_state_value(state));                and this process is not called again
  */
 #ifndef AGREEMENT_H
 #define AGREEMENT_H

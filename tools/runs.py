@@ -308,7 +308,7 @@ def contradictions(run):
 def reasons(ticket, refused):
     """Which of the things that a refusal's text names is the case: sentences, at least one."""
     if refused.number == 1:
-        return [f"The ticket has {len(ticket)} bytes."]
+        return [f"The ticket has {len(ticket):,} bytes."]
     lines, closed = lines_of(ticket)
     if refused.line < 1 or refused.line > len(lines) + 1:
         return ["No line is wrong."]
@@ -337,9 +337,9 @@ def line_reasons(line, closed):
         found.append("The line is empty.")
     other = sorted({byte for byte in line if byte not in b"0123456789ABCDEF"})
     if other:
-        found.append(f"It has {counted(len(other), 'byte')} other than digits 0-9 and A-F: {', '.join(map(byte_text, other[:8]))}.")
+        found.append(f"It has other bytes than digits 0-9 and A-F: {', '.join(map(byte_text, other[:8]))}.")
     elif len(line) % 2:
-        found.append(f"It has {len(line)} digits, which is an odd count.")
+        found.append(f"It has {counted(len(line), 'digit')}, which is an odd count.")
     if not closed:
         found.append("It is the last line, and no byte 0A closes it.")
     return found
