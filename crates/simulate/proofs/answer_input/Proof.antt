@@ -1,6 +1,6 @@
--- `simulate::main` meets its contract: what was read lies within the buffer. Assumes nothing.
-use Rattle.simulate.proofs.main.Statement.{statement}
-use Rattle.simulate.proofs.main.Tie as tie
+-- `simulate::answer_input` meets its contract: what was read lies within the buffer. Assumes nothing.
+use Rattle.simulate.proofs.answer_input.Statement.{statement}
+use Rattle.simulate.proofs.answer_input.Tie as tie
 use borrow.Author.Needs.{needs}
 use native.Mathlib.Omega.{arith}
 
@@ -16,6 +16,12 @@ enum-known-size c = search needs
 enum-told : tie.Need-enum-told
 enum-told c = search needs
 
+slice-aggregate-fail : tie.Need-slice-aggregate-fail
+slice-aggregate-fail c = search needs
+
+fail-requires : tie.Need-fail-requires
+fail-requires c κs = search needs
+
 returns : tie.Need-returns
 returns c = search needs
 
@@ -30,14 +36,16 @@ answer-front-requires c κs =
 returns-2 : tie.Need-returns-2
 returns-2 c = search needs
 
-pub main-spec : {M : Type 1} → statement M
-main-spec =
+pub answer-input-spec : {M : Type 1} → statement M
+answer-input-spec =
     tie.close
     (tie.spec
     slice-aggregate-read-input
     read-input-requires
     enum-known-size
     enum-told
+    slice-aggregate-fail
+    fail-requires
     returns
     slice-aggregate-answer-front
     answer-front-requires
