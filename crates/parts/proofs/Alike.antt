@@ -15,12 +15,13 @@ use Rattle.protocol.specs.Consensus.{IsProcess}
 use Rattle.protocol.proofs.Pointwise.{stateAt, state-at}
 use Rattle.protocol.proofs.Values.{Holds, holds-fitting}
 use Rattle.protocol.proofs.Coordinator.{waits-below}
-use Rattle.encoding.specs.PartState.{stateBytes, stateFrom, stateValid, isOwnRound, markOpen, markDecided}
-use Rattle.encoding.specs.Frame.{Carried, framesOf}
-use Rattle.process.specs.Speak.{speakRefusal, speakYields}
-use Rattle.process.specs.Close.{stateAfter, closedOn, closeRefusal, closeState}
-use Rattle.encoding.proofs.Valid.{Identity, within-valid}
-use Rattle.process.proofs.Exchange.{speak-yields, close-on-frames}
+use Rattle.part_format.specs.PartState.{stateBytes, stateFrom, stateValid, isOwnRound, markOpen, markDecided}
+use Rattle.part_format.specs.Frame.{framesOf}
+use Rattle.part_format.specs.Speak.{speakRefusal, speakYields}
+use Rattle.part_format.specs.Close.{stateAfter, closedOn, closeRefusal, closeState}
+use Rattle.part_format.proofs.Valid.{Identity, within-valid}
+use Rattle.part_format.proofs.Carried.{Carried}
+use Rattle.part_format.proofs.Exchange.{speak-yields, close-on-frames}
 use Rattle.parts.specs.Part.{Part, up, crashedIn, isOpen, outputRoom, yielded}
 use Rattle.parts.specs.Host.{partAfter}
 use Rattle.parts.specs.DecideAlike.{partState, partBytes, Alike, bothOpen, bothOver, bothDecided, bothCrashed}

@@ -11,14 +11,14 @@ use lib.ListN.{length, take}
 use lib.Seq.{take-append-seam}
 use borrow.Author.Tests.{ne-eqb, le-ltb}
 use Rattle.protocol.specs.Transition.{sends}
-use Rattle.encoding.specs.PartState.{PartState, stateBytes, stateFrom, stateValid, stateRefusal, isOwnRound, markOpen}
-use Rattle.encoding.specs.Frame.{framesOf}
-use Rattle.process.specs.Speak.{spokenBy, speakRefusal, speakYields, speakAnswer, speakOutput}
-use Rattle.process.specs.Close.{closeState}
-use Rattle.encoding.proofs.Opened.{opened}
-use Rattle.process.proofs.Operations.{length-frames, close-refused}
-use Rattle.encoding.proofs.RoundTrip.{state-from-bytes}
-use Rattle.encoding.proofs.ValidBytes.{open-bytes}
+use Rattle.part_format.specs.PartState.{PartState, stateBytes, stateFrom, stateValid, stateRefusal, isOwnRound, markOpen}
+use Rattle.part_format.specs.Frame.{framesOf}
+use Rattle.part_format.specs.Speak.{spokenBy, speakRefusal, speakYields, speakAnswer, speakOutput}
+use Rattle.part_format.specs.Close.{closeState}
+use Rattle.part_format.proofs.Opened.{opened}
+use Rattle.part_format.proofs.Operations.{length-frames, close-refused}
+use Rattle.part_format.proofs.RoundTrip.{state-from-bytes}
+use Rattle.part_format.proofs.ValidBytes.{open-bytes}
 use Rattle.parts.specs.Part.{outputRoom, OutputYielded}
 
 -- A part that is not open.

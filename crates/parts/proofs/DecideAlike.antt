@@ -15,14 +15,14 @@ use Rattle.protocol.proofs.Pointwise.{stateAt, state-at}
 use Rattle.protocol.proofs.Rounds.{received-below}
 use Rattle.protocol.proofs.History.{heardAt, undecided-crashed, decided-crashed}
 use Rattle.protocol.proofs.Values.{Holds, holds-fitting}
-use Rattle.encoding.specs.PartState.{stateBytes, stateFrom, markOpen, markDecided}
-use Rattle.encoding.specs.Frame.{Carried, framesOf}
-use Rattle.process.specs.Start.{startRefusal, startState, startBytes}
-use Rattle.process.specs.Speak.{speakRefusal}
-use Rattle.process.specs.Close.{closeRefusal}
-use Rattle.encoding.proofs.Valid.{identity-holds}
-use Rattle.process.proofs.Operations.{start-written}
-use Rattle.process.proofs.Exchange.{sends-carried, arriving-carried}
+use Rattle.part_format.specs.PartState.{stateBytes, stateFrom, markOpen, markDecided}
+use Rattle.part_format.specs.Frame.{framesOf}
+use Rattle.part_format.specs.Start.{startRefusal, startState, startBytes}
+use Rattle.part_format.specs.Speak.{speakRefusal}
+use Rattle.part_format.specs.Close.{closeRefusal}
+use Rattle.part_format.proofs.Valid.{identity-holds}
+use Rattle.part_format.proofs.Operations.{start-written}
+use Rattle.part_format.proofs.Carried.{Carried, sends-carried, arriving-carried}
 use Rattle.parts.specs.Part.{Part, up, partOf, isOpen, outputRoom, yielded}
 use Rattle.parts.specs.Hearing.{letThrough, heard}
 use Rattle.parts.specs.Host.{blank, partsTo, partsOf, endPartOf}

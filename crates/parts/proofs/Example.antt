@@ -7,11 +7,11 @@ use Rattle.protocol.specs.Instance.{Instance, correct, crashes, duringCommits, 
 use Rattle.protocol.specs.Transition.{sends, receives}
 use Rattle.protocol.specs.Delivery.{amongFirst, reachAt, reachIn, reach}
 use Rattle.protocol.specs.Round.{crashesIn}
-use Rattle.encoding.specs.PartState.{stateBytes, stateFrom, identityValid, roundValid, fieldsValid, stateValid, stateRefusal, isOwnRound}
-use Rattle.encoding.specs.Frame.{dataFrame, commitFrame, framesOf, isDataFrame, isCommitFrame, messagesFrom, heardBy}
-use Rattle.process.specs.Start.{startRefusal, startState, startBytes}
-use Rattle.process.specs.Speak.{spokenBy, speakRefusal, speakYields}
-use Rattle.process.specs.Close.{stateAfter, closedOn, closeOnHeard, closeState}
+use Rattle.part_format.specs.PartState.{stateBytes, stateFrom, identityValid, roundValid, fieldsValid, stateValid, stateRefusal, isOwnRound}
+use Rattle.part_format.specs.Frame.{dataFrame, commitFrame, framesOf, isDataFrame, isCommitFrame, messagesFrom, heardBy}
+use Rattle.part_format.specs.Start.{startRefusal, startState, startBytes}
+use Rattle.part_format.specs.Speak.{spokenBy, speakRefusal, speakYields}
+use Rattle.part_format.specs.Close.{stateAfter, closedOn, closeOnHeard, closeState}
 use Rattle.parts.specs.Part.{up, crashedIn, isOpen, outputRoom, yielded}
 use Rattle.parts.specs.Hearing.{bytesReaching, letThrough, heardFrom, heard}
 use Rattle.parts.specs.Host.{blank, startedParts, partAfter, partsAfter, partsTo, partsOf}

@@ -7,10 +7,10 @@ use Rattle.protocol.specs.Instance.{Instance}
 use Rattle.protocol.specs.Round.{State, undecided, decided, crashed, stateOf}
 use Rattle.protocol.specs.Run.{runTo}
 use Rattle.protocol.specs.Consensus.{IsProcess, endOf}
-use Rattle.encoding.specs.PartState.{PartState, stateBytes, markOpen, markDecided, markOver}
-use Rattle.process.specs.Start.{startRefusal}
-use Rattle.process.specs.Speak.{speakRefusal}
-use Rattle.process.specs.Close.{closeRefusal}
+use Rattle.part_format.specs.PartState.{PartState, stateBytes, markOpen, markDecided, markOver}
+use Rattle.part_format.specs.Start.{startRefusal}
+use Rattle.part_format.specs.Speak.{speakRefusal}
+use Rattle.part_format.specs.Close.{closeRefusal}
 use Rattle.parts.specs.Part.{Part, up, crashedIn, partOf, isOpen, outputRoom}
 use Rattle.parts.specs.Hearing.{heard}
 use Rattle.parts.specs.Host.{blank, partsTo, endPartOf}

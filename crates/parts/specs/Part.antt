@@ -5,8 +5,8 @@ use Prim.Native.Nat.{ℕ, _-_, _≤_}
 use mathlib.Core.Bool.{Bool}
 use lib.Dec.{eqb}
 use lib.ListN.{length, getD, take}
-use Rattle.encoding.specs.PartState.{stateFrom, markOpen}
-use Rattle.process.specs.Speak.{speakYields, speakAnswer, speakOutput}
+use Rattle.part_format.specs.PartState.{stateFrom, markOpen}
+use Rattle.part_format.specs.Speak.{speakYields, speakAnswer, speakOutput}
 
 -- Up, with its nine bytes; or crashed in this round, with the nine bytes with which the round began (document 01: dark). A crashed part is not called again.
 pub data Part : Type 0 where

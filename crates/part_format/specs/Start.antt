@@ -4,7 +4,7 @@ use Prim.Native.Nat.{ℕ}
 use mathlib.Core.Bool.{cond, not, _&&_}
 use lib.Dec.{eqb}
 use lib.ListN.{length}
-use Rattle.encoding.specs.PartState.{PartState, markOpen, stateBytes, identityValid}
+use Rattle.part_format.specs.PartState.{PartState, markOpen, stateBytes, identityValid}
 
 -- 10: n, t or the station outside the limits, or not exactly nine bytes lent; 0: none.
 unfoldable pub startRefusal : (p n t : ℕ) → List ℕ → ℕ

@@ -11,7 +11,7 @@ use borrow.Author.Tests.{leb-true, eqb-true, eqb-false, le-leb, lt-leb, lt-ltb, 
 use Rattle.general.proofs.Tests.{both, refuted}
 use Rattle.protocol.specs.Instance.{withinLimits}
 use Rattle.protocol.proofs.Limits.{limits-hold, limits-pass}
-use Rattle.encoding.specs.PartState.{identityValid, roundValid, fieldsValid, stateValid, stateFrom, stateRefusal}
+use Rattle.part_format.specs.PartState.{identityValid, roundValid, fieldsValid, stateValid, stateFrom, stateRefusal}
 
 -- Within the limits every number is a byte.
 pub record Identity (p n t : ℕ) : Type 0 where

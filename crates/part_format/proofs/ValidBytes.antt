@@ -6,8 +6,8 @@ use native.Mathlib.Omega.{arith}
 use Rattle.general.specs.BigEndian.{bytesOf}
 use Rattle.general.proofs.Bytes.{bytes-each, bytes-append}
 use Rattle.general.proofs.BigEndian.{bytes-of-number}
-use Rattle.encoding.specs.PartState.{PartState, stateBytes, stateFrom, stateValid, stateRefusal, ValidBytes}
-use Rattle.encoding.proofs.Valid.{fields-say}
+use Rattle.part_format.specs.PartState.{PartState, stateBytes, stateFrom, stateValid, stateRefusal, ValidBytes}
+use Rattle.part_format.proofs.Valid.{fields-say}
 
 pub valid-bytes : (s : PartState) → stateValid s ≡ true → ValidBytes (stateBytes s)
 unfolding stateValid stateFrom stateBytes bytesOf

@@ -5,8 +5,8 @@ use mathlib.Core.Bool.{cond, not}
 use lib.Dec.{eqb, ltb}
 use lib.ListN.{length, drop}
 use Rattle.protocol.specs.Transition.{sends}
-use Rattle.encoding.specs.PartState.{PartState, stateFrom, stateRefusal, isOwnRound}
-use Rattle.encoding.specs.Frame.{framesOf}
+use Rattle.part_format.specs.PartState.{PartState, stateFrom, stateRefusal, isOwnRound}
+use Rattle.part_format.specs.Frame.{framesOf}
 
 -- The frames that an open process sends in its round: data then commit in its own, nothing in any other.
 unfoldable pub spokenBy : PartState → List ℕ

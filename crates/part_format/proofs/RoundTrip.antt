@@ -10,8 +10,9 @@ use borrow.Author.Tests.{eq-eqb}
 use Rattle.general.specs.BigEndian.{bytesOf}
 use Rattle.general.proofs.BigEndian.{number-bytes}
 use Rattle.protocol.specs.Message.{Messages, nothing, estimate, estimateAndCommit}
-use Rattle.encoding.specs.PartState.{PartState, stateBytes, stateFrom, isOwnRound}
-use Rattle.encoding.specs.Frame.{Carried, dataFrame, commitFrame, framesOf, isDataFrame, isCommitFrame, messagesFrom, heardBy}
+use Rattle.part_format.specs.PartState.{PartState, stateBytes, stateFrom, isOwnRound}
+use Rattle.part_format.specs.Frame.{dataFrame, commitFrame, framesOf, isDataFrame, isCommitFrame, messagesFrom, heardBy}
+use Rattle.part_format.proofs.Carried.{Carried}
 
 -- A state comes back from its nine bytes.
 pub state-from-bytes : (s : PartState) → s .value < 2 ^ 32 → stateFrom (stateBytes s) ≡ s

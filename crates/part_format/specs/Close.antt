@@ -1,15 +1,13 @@
 -- Closing a round on what was heard (document 01, 'The desk part' and 'Refused calls', "Closing").
-use mathlib.Core.Path.{_≡_}
 use mathlib.Core.List.{List}
 use mathlib.Core.Option.{Option, some, none}
-use Prim.Native.Nat.{ℕ, suc, _≤_, _<_}
+use Prim.Native.Nat.{ℕ, suc}
 use mathlib.Core.Bool.{cond, not}
 use lib.Dec.{eqb}
-use lib.ListN.{length, getD}
 use Rattle.protocol.specs.Message.{Messages}
 use Rattle.protocol.specs.Transition.{Outcome, continues, decides, receives}
-use Rattle.encoding.specs.PartState.{PartState, stateBytes, stateFrom, markOpen, markDecided, markOver, stateRefusal, isOwnRound}
-use Rattle.encoding.specs.Frame.{heardBy}
+use Rattle.part_format.specs.PartState.{PartState, stateBytes, stateFrom, markOpen, markDecided, markOver, stateRefusal, isOwnRound}
+use Rattle.part_format.specs.Frame.{heardBy}
 
 -- Still open it goes on to the next round; after round t + 1 its rounds are over. A process that decides keeps its deciding round.
 unfoldable pub stateAfter : PartState → Outcome → PartState
@@ -32,10 +30,6 @@ stateAfter s (decides v) =
       mark = markDecided;
       value = v;
     }
-
--- For the code alone, and nothing that document 01 states: nine bytes whose round and t + 1 have room for one more in a byte, as those of every valid state have.
-abbrev pub RoundFits : List ℕ → Type 0
-RoundFits state = (length state ≡ 9) × (getD state 2 0 < 64) × (getD state 3 0 ≤ 64)
 
 -- The state after a round in which these messages were received.
 unfoldable pub closedOn : PartState → Messages → PartState

@@ -2,9 +2,9 @@
 use mathlib.Core.Path.{_≡_}
 use mathlib.Core.List.{List}
 use Prim.Native.Nat.{ℕ}
-use Rattle.encoding.specs.PartState.{stateRefusal, ValidBytes}
-use Rattle.process.specs.Start.{startRefusal, startBytes}
-use Rattle.process.specs.Close.{closeRefusal, closeState}
+use Rattle.part_format.specs.PartState.{stateRefusal, ValidBytes}
+use Rattle.part_format.specs.Start.{startRefusal, startBytes}
+use Rattle.part_format.specs.Close.{closeRefusal, closeState}
 
 -- The claim: what they leave is nine bytes of a valid state again, and after a start the process is open.
 pub record LeavesValid : Type 0 where

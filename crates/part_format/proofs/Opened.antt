@@ -7,9 +7,9 @@ use native.Mathlib.Omega.{arith}
 use lib.Dec.{eqb, leb}
 use lib.ListN.{length, getD}
 use borrow.Author.Tests.{eqb-true, leb-true, le-leb}
-use Rattle.encoding.specs.PartState.{fieldsValid, stateValid, stateFrom, stateRefusal}
+use Rattle.part_format.specs.PartState.{fieldsValid, stateValid, stateFrom, stateRefusal}
 use Rattle.general.proofs.Tests.{both, refuted, same-test}
-use Rattle.encoding.proofs.Valid.{Identity, Within, round-within, fields-say, within-valid}
+use Rattle.part_format.proofs.Valid.{Identity, Within, round-within, fields-say, within-valid}
 
 pub record Opened (b : List ℕ) : Type 0 where
   pub refusal : stateRefusal b ≡ 0

@@ -7,9 +7,9 @@ use lib.Dec.{eqb}
 use borrow.Author.Tests.{eqb-true, eqb-false}
 use Rattle.protocol.specs.Message.{Messages, nothing, estimate, estimateAndCommit}
 use Rattle.protocol.specs.Transition.{continues, decides, receives}
-use Rattle.encoding.specs.PartState.{PartState, fieldsValid, stateValid, isOwnRound}
-use Rattle.process.specs.Close.{stateAfter, closedOn}
-use Rattle.encoding.proofs.Valid.{Identity, Within, round-within, Fields, fields-say, within-valid, over-valid}
+use Rattle.part_format.specs.PartState.{PartState, fieldsValid, stateValid, isOwnRound}
+use Rattle.part_format.specs.Close.{stateAfter, closedOn}
+use Rattle.part_format.proofs.Valid.{Identity, Within, round-within, Fields, fields-say, within-valid, over-valid}
 
 continues-on : (over : Bool) (p n t round : ℕ) → Identity p n t → Within p t round → (p ≡ round → ⊥) → eqb round (suc t) ≡ over
     → fieldsValid p n t (cond over round (suc round)) (cond over 2 0) ≡ true

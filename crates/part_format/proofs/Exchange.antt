@@ -8,33 +8,16 @@ use lib.Dec.{ltb}
 use lib.ListN.{length}
 use borrow.Author.Tests.{le-ltb}
 use Rattle.general.specs.BigEndian.{bytesOf}
-use Rattle.protocol.specs.Message.{Messages, nothing, estimate, estimateAndCommit, Reach, dataOnly, all, arriving}
-use Rattle.protocol.specs.Message as message
+use Rattle.protocol.specs.Message.{Messages, nothing}
 use Rattle.protocol.specs.Transition.{sends}
-use Rattle.encoding.specs.PartState.{PartState, stateBytes, stateFrom, stateValid, stateRefusal, isOwnRound}
-use Rattle.encoding.specs.Frame.{Carried, dataFrame, commitFrame, framesOf, heardBy}
-use Rattle.process.specs.Speak.{spokenBy, speakRefusal, speakYields}
-use Rattle.process.specs.Close.{closedOn, closeRefusal, closeState}
-use Rattle.encoding.proofs.RoundTrip.{state-from-bytes, heard-frames}
-use Rattle.encoding.proofs.ValidBytes.{open-bytes}
-use Rattle.process.proofs.Operations.{close-closed}
-
--- ---- values that four bytes can carry
-
-pub sends-carried : (own : Bool) (v : ℕ) → v < 2 ^ 32 → Carried (sends own v)
-unfolding Carried sends
-sends-carried true v h = h
-sends-carried false v h = tt
-
-pub arriving-carried : (reach : Reach) (m : Messages) → Carried m → Carried (arriving reach m)
-unfolding Carried arriving
-arriving-carried message.none m h = tt
-arriving-carried dataOnly nothing h = tt
-arriving-carried dataOnly (estimate v) h = h
-arriving-carried dataOnly (estimateAndCommit v) h = h
-arriving-carried all m h = h
-
--- ---- the operations on the bytes of a valid open state
+use Rattle.part_format.specs.PartState.{PartState, stateBytes, stateFrom, stateValid, stateRefusal, isOwnRound}
+use Rattle.part_format.specs.Frame.{dataFrame, commitFrame, framesOf, heardBy}
+use Rattle.part_format.specs.Speak.{spokenBy, speakRefusal, speakYields}
+use Rattle.part_format.specs.Close.{closedOn, closeRefusal, closeState}
+use Rattle.part_format.proofs.Carried.{Carried}
+use Rattle.part_format.proofs.RoundTrip.{state-from-bytes, heard-frames}
+use Rattle.part_format.proofs.ValidBytes.{open-bytes}
+use Rattle.part_format.proofs.Operations.{close-closed}
 
 length-sent : (own : Bool) (r v : ℕ) → length (framesOf r (sends own v)) ≤ 8
 unfolding sends framesOf dataFrame commitFrame bytesOf

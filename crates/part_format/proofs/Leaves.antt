@@ -9,17 +9,17 @@ use lib.Dec.{eqb}
 use lib.ListN.{length}
 use borrow.Author.Tests.{eqb-true, eqb-false}
 use Rattle.protocol.specs.Message.{Messages}
-use Rattle.encoding.specs.PartState.{stateBytes, stateFrom, identityValid, stateValid, stateRefusal, ValidBytes}
-use Rattle.encoding.specs.Frame.{heardBy}
-use Rattle.process.specs.Start.{startState, startRefusal, startBytes}
-use Rattle.process.specs.Close.{closedOn, heardRefusal, closeRefusal, closeState}
-use Rattle.process.specs.Leaves.{LeavesValid}
+use Rattle.part_format.specs.PartState.{stateBytes, stateFrom, identityValid, stateValid, stateRefusal, ValidBytes}
+use Rattle.part_format.specs.Frame.{heardBy}
+use Rattle.part_format.specs.Start.{startState, startRefusal, startBytes}
+use Rattle.part_format.specs.Close.{closedOn, heardRefusal, closeRefusal, closeState}
+use Rattle.part_format.specs.Leaves.{LeavesValid}
 use Rattle.general.proofs.Tests.{both}
-use Rattle.encoding.proofs.Valid.{identity-says, within-valid}
-use Rattle.encoding.proofs.Opened.{Opened, opened}
-use Rattle.encoding.proofs.ValidBytes.{valid-bytes, open-bytes}
-use Rattle.process.proofs.Operations.{start-written, close-closed}
-use Rattle.process.proofs.StaysValid.{closed-on-valid}
+use Rattle.part_format.proofs.Valid.{identity-says, within-valid}
+use Rattle.part_format.proofs.Opened.{Opened, opened}
+use Rattle.part_format.proofs.ValidBytes.{valid-bytes, open-bytes}
+use Rattle.part_format.proofs.Operations.{start-written, close-closed}
+use Rattle.part_format.proofs.StaysValid.{closed-on-valid}
 
 -- ---- starting
 

@@ -11,12 +11,12 @@ use borrow.Author.Tests.{eq-eqb, ne-eqb, lt-ltb, le-ltb}
 use Rattle.general.specs.BigEndian.{number, bytesOf}
 use Rattle.protocol.specs.Message.{estimateAndCommit, Messages}
 use Rattle.protocol.specs.Transition.{sends}
-use Rattle.encoding.specs.PartState.{stateBytes, identityValid, stateFrom, stateRefusal, isOwnRound}
-use Rattle.process.specs.Start.{startRefusal, startState, startBytes}
-use Rattle.encoding.specs.Frame.{dataFrame, commitFrame, framesOf, heardBy}
-use Rattle.process.specs.Speak.{spokenBy, speakRefusal, speakYields, speakAnswer, speakOutput}
-use Rattle.process.specs.Close.{closedOn, heardRefusal, closeRefusal, closeOnHeard, closeState}
-use Rattle.encoding.proofs.Bytes.{value-from}
+use Rattle.part_format.specs.PartState.{stateBytes, identityValid, stateFrom, stateRefusal, isOwnRound}
+use Rattle.part_format.specs.Start.{startRefusal, startState, startBytes}
+use Rattle.part_format.specs.Frame.{dataFrame, commitFrame, framesOf, heardBy}
+use Rattle.part_format.specs.Speak.{spokenBy, speakRefusal, speakYields, speakAnswer, speakOutput}
+use Rattle.part_format.specs.Close.{closedOn, heardRefusal, closeRefusal, closeOnHeard, closeState}
+use Rattle.part_format.proofs.Bytes.{value-from}
 
 -- What starting answers and leaves.
 module _ (p n t v : ℕ) (lent : List ℕ) where

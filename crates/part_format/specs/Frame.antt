@@ -1,25 +1,19 @@
 -- Frames: the messages of a round as bytes (document 01, 'The desk part': "21, round, value for data; 22, round for commit").
 use mathlib.Core.List.{List, [], _∷_, _++_}
 use mathlib.Core.Option.{Option, some, none}
-use Prim.Native.Nat.{ℕ, _<_, _^_}
+use Prim.Native.Nat.{ℕ}
 use mathlib.Core.Bool.{Bool, cond, not, _&&_}
 use lib.Dec.{eqb}
 use lib.ListN.{length, getD, take, drop}
 use Rattle.general.specs.BigEndian.{number, bytesOf}
 use Rattle.protocol.specs.Message.{Messages, nothing, estimate, estimateAndCommit}
-use Rattle.encoding.specs.PartState.{PartState, isOwnRound}
+use Rattle.part_format.specs.PartState.{PartState, isOwnRound}
 
 unfoldable pub dataFrame : ℕ → ℕ → List ℕ
 dataFrame r v = 0x21 ∷ r ∷ bytesOf 4 v
 
 unfoldable pub commitFrame : ℕ → List ℕ
 commitFrame r = 0x22 ∷ r ∷ []
-
--- For the proofs alone, and nothing that document 01 states: messages whose value the four bytes of a frame can carry.
-unfoldable pub Carried : Messages → Type 0
-Carried nothing = Unit
-Carried (estimate v) = v < 2 ^ 32
-Carried (estimateAndCommit v) = v < 2 ^ 32
 
 -- The frames of round r that carry these messages.
 unfoldable pub framesOf : ℕ → Messages → List ℕ

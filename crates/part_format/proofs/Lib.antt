@@ -1,0 +1,12 @@
+-- Laws of the definitions, one for each way that a call ends.
+pub mod Bytes
+pub mod Valid
+pub mod Opened
+pub mod Operations
+-- Theorems on the definitions.
+pub mod Carried
+pub mod RoundTrip
+pub mod ValidBytes
+pub mod StaysValid
+pub mod Leaves
+pub mod Exchange

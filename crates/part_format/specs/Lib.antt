@@ -1,0 +1,6 @@
+pub mod PartState
+pub mod Frame
+pub mod Start
+pub mod Speak
+pub mod Close
+pub mod Leaves
