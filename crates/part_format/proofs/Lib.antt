@@ -10,3 +10,5 @@ pub mod ValidBytes
 pub mod StaysValid
 pub mod Leaves
 pub mod Exchange
+-- Worked calls.
+pub mod PartCases

@@ -4,3 +4,5 @@ pub mod Start
 pub mod Speak
 pub mod Close
 pub mod Leaves
+pub mod Case
+pub mod PartCases
