@@ -3,6 +3,7 @@ pub mod Bytes
 pub mod Valid
 pub mod Opened
 pub mod Operations
+pub mod Room
 -- Theorems on the definitions.
 pub mod Carried
 pub mod RoundTrip
@@ -10,5 +11,6 @@ pub mod ValidBytes
 pub mod StaysValid
 pub mod Leaves
 pub mod Exchange
+pub mod Refused
 -- Worked calls.
 pub mod PartCases

@@ -1,7 +1,8 @@
 -- What the three operations answer and leave, one law for each way that they end. Assumes nothing.
 use mathlib.Core.Path.{_≡_, refl, ap, _∙_, sym}
 use mathlib.Core.List.{List, [], _++_}
-use mathlib.Core.Bool.{true, false, and-false}
+use mathlib.Core.Logic.{_⊎_, inl, inr}
+use mathlib.Core.Bool.{Bool, true, false, and-false}
 use mathlib.Core.Option.{some, none}
 use Prim.Native.Nat.{ℕ, _≤_, _<_}
 use native.Mathlib.Omega.{arith}
@@ -11,7 +12,7 @@ use borrow.Author.Tests.{eq-eqb, ne-eqb, lt-ltb, le-ltb}
 use Rattle.general.specs.BigEndian.{number, bytesOf}
 use Rattle.protocol.specs.Message.{estimateAndCommit, Messages}
 use Rattle.protocol.specs.Transition.{sends}
-use Rattle.part_format.specs.PartState.{stateBytes, identityValid, stateFrom, stateRefusal, isOwnRound}
+use Rattle.part_format.specs.PartState.{PartState, stateBytes, identityValid, stateFrom, stateRefusal, isOwnRound}
 use Rattle.part_format.specs.Start.{startRefusal, startState, startBytes}
 use Rattle.part_format.specs.Frame.{dataFrame, commitFrame, framesOf, heardBy}
 use Rattle.part_format.specs.Speak.{spokenBy, speakRefusal, speakYields, speakAnswer, speakOutput}
@@ -38,6 +39,15 @@ module _ (p n t v : ℕ) (lent : List ℕ) where
 pub length-frames : (r v : ℕ) → length (framesOf r (estimateAndCommit v)) ≡ 8
 unfolding framesOf dataFrame commitFrame bytesOf
 length-frames r v = refl
+
+-- So what an open process sends is eight bytes or none.
+pub spoken-length : (s : PartState) → (length (spokenBy s) ≡ 0) ⊎ (length (spokenBy s) ≡ 8)
+unfolding spokenBy framesOf sends
+spoken-length s = by-round (isOwnRound s)
+  where
+    by-round : (own : Bool) → (length (framesOf (s .round) (sends own (s .value))) ≡ 0) ⊎ (length (framesOf (s .round) (sends own (s .value))) ≡ 8)
+    by-round true = inr (length-frames (s .round) (s .value))
+    by-round false = inl refl
 
 -- What speaking answers and leaves.
 module _ (state output : List ℕ) where

@@ -1,4 +1,5 @@
--- The worked calls of the process part are what the definitions give. Both sides are computed, so the line below names every definition on the way. Assumes nothing.
+-- The worked calls of the process part are what the definitions give.
+-- Both sides are computed, so the line below names every definition on the way. Assumes nothing.
 use mathlib.Core.Path.{refl}
 use Rattle.general.specs.BigEndian.{number, numberFrom, bytesOf}
 use Rattle.protocol.specs.Instance.{withinLimits}

@@ -6,3 +6,4 @@ pub mod Close
 pub mod Leaves
 pub mod Case
 pub mod PartCases
+pub mod Refused

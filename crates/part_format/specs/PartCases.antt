@@ -2,7 +2,6 @@
 -- A state is written as station, n, t, round, mark, value; a frame as kind, round, value.
 use mathlib.Core.List.{List, [], _∷_, _++_, map}
 use mathlib.Core.Path.{_≡_}
-use Prim.Native.Nat.{ℕ}
 use lib.ListN.{length}
 use Rattle.part_format.specs.Case.{Case, starting, speaking, closing, refusing, gives, says}
 
