@@ -1,3 +1,5 @@
+-- Worked calls.
+pub mod PartCases
 -- Laws of the definitions, one for each way that a call ends.
 pub mod Bytes
 pub mod Valid
@@ -12,5 +14,3 @@ pub mod StaysValid
 pub mod Leaves
 pub mod Exchange
 pub mod Refused
--- Worked calls.
-pub mod PartCases

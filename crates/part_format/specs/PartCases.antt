@@ -154,7 +154,7 @@ heardCases =
 unfoldable pub partCases : List Case
 partCases = startCases ++ speakCases ++ refusedCases ++ closeCases ++ heardCases
 
--- The claim: every case is what the definitions give, and there are so many of them (document 01, 'The desk part' and 'Refused calls').
+-- The claim: every case is what the definitions give, and none is missing (document 01, 'The desk part' and 'Refused calls').
 pub record PartCases : Type 0 where
   pub given : map gives partCases ≡ map says partCases
-  pub counted : map length (startCases ∷ speakCases ∷ refusedCases ∷ closeCases ∷ heardCases ∷ []) ≡ 16 ∷ 8 ∷ 32 ∷ 11 ∷ 24 ∷ []
+  pub counted : length partCases ≡ 91
