@@ -42,6 +42,7 @@ pub record OpenAfter (x : Instance) (r p : ℕ) (b : List ℕ) : Type 0 where
   pub process : IsProcess x p
   pub within : r ≤ x .resilience
   pub kept : partOf (partsTo x r) p ≡ up b
+  -- its mark is 00
   pub marked : isOpen b ≡ true
 
 -- No call is refused while its part is open: in each round r + 1 of the run, and at the start.
