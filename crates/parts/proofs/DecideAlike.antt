@@ -30,7 +30,8 @@ use Rattle.parts.specs.Host.{blank, partsTo, partsOf, endPartOf}
 use Rattle.parts.specs.DecideAlike.{partState, partBytes, CrashedAlike, DecideAlike, OpenAfter, NoneRefused}
 use Rattle.parts.proofs.Places.{length-parts, part-started, part-after}
 use Rattle.parts.proofs.Hearing.{heard-from-one, frames-reaching}
-use Rattle.parts.proofs.Alike.{Alike, bothOpen, bothOver, bothDecided, bothCrashed, identity, open-spoken, open-after, coordinator-yields, others-silent, round-alike}
+use Rattle.parts.proofs.Alike.{Alike, bothOpen, bothOver, bothDecided, bothCrashed}
+use Rattle.parts.proofs.Alike.{identity, open-spoken, open-after, coordinator-yields, others-silent, round-alike}
 
 -- What is sent has a value of four bytes, if the coordinator's has.
 sent-carried : (c : State) → Holds (λ v. v < 2 ^ 32) c → Carried (sentBy c)

@@ -1,5 +1,5 @@
--- Case 1 of document 01 by separate parts: the host's definitions compute (`case1-parts`), and the claims on parts speak of it (`claims-speak`): each is used there,
--- its premises computed. Assumes nothing.
+-- Case 1 of document 01 by separate parts: the host's definitions compute (`case1-parts`), and the claims on parts speak of it (`claims-speak`):
+-- each is used there, its premises computed. Assumes nothing.
 use mathlib.Core.List.{[], _∷_}
 use mathlib.Core.Path.{_≡_, refl}
 use Prim.Native.Nat.{ℕ, _≤_, _<_}
@@ -58,11 +58,13 @@ of-crashing alike = crashed-bytes _ (alike .whenCrashed 1 1 (process 1 (omega ar
 
 of-speaking : NoneRefused case1Instance → speakRefusal second 8 ≡ 0
 unfolding second case1Instance number numberFrom bytesOf mapFrom withinLimits faultOf sends receives amongFirst reachAt reachIn crashesIn stateBytes stateFrom identityValid roundValid fieldsValid stateValid stateRefusal isOwnRound dataFrame commitFrame framesOf isDataFrame isCommitFrame messagesFrom startRefusal startState startBytes spokenBy speakRefusal speakYields heardBy stateAfter closedOn closeOnHeard closeState isOpen outputRoom yielded bytesReaching reachFrom letThrough heardFrom heard blank startedParts partAfter partsAfter partsTo partOf
-of-speaking taken = taken .whenSpeaking 1 2 second (record { process = process 2 (omega arith) (omega arith); within = omega arith; kept = refl; marked = refl })
+of-speaking taken =
+    taken .whenSpeaking 1 2 second (record { process = process 2 (omega arith) (omega arith); within = omega arith; kept = refl; marked = refl })
 
 of-closing : NoneRefused case1Instance → closeRefusal third frames ≡ 0
 unfolding third frames case1Instance number numberFrom bytesOf mapFrom withinLimits faultOf sends receives amongFirst reachAt reachIn crashesIn stateBytes stateFrom identityValid roundValid fieldsValid stateValid stateRefusal isOwnRound dataFrame commitFrame framesOf isDataFrame isCommitFrame messagesFrom startRefusal startState startBytes spokenBy speakRefusal speakYields heardBy stateAfter closedOn closeOnHeard closeState isOpen outputRoom yielded bytesReaching reachFrom letThrough heardFrom heard blank startedParts partAfter partsAfter partsTo partOf
-of-closing taken = taken .whenClosing 1 3 third (record { process = process 3 (omega arith) (omega arith); within = omega arith; kept = refl; marked = refl })
+of-closing taken =
+    taken .whenClosing 1 3 third (record { process = process 3 (omega arith) (omega arith); within = omega arith; kept = refl; marked = refl })
 
 -- ---- what stands in the buffer
 

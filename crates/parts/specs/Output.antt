@@ -1,5 +1,5 @@
--- What a host finds in the buffer that it lends a part to speak (document 01, 'The desk part': "Speaking yields data then commit (8 bytes) in the desk's own round,
--- else no bytes, and leaves the state; output bytes past those yielded stay").
+-- What a host finds in the buffer that it lends a part to speak (document 01, 'The desk part': "Speaking yields data then commit (8 bytes)
+-- in the desk's own round, else no bytes, and leaves the state; output bytes past those yielded stay").
 use mathlib.Core.List.{List, []}
 use mathlib.Core.Path.{_≡_}
 use Prim.Native.Nat.{ℕ, _≤_, _<_}

@@ -1,5 +1,5 @@
 // The process part: starting, speaking and closing a round over nine lent bytes (document 01, 'The desk part' and 'Refused calls').
-// Each operation is total. Its answer and every byte afterwards, on refusals too, are given by the definitions of specs/.
+// Each operation is total. Its answer and every byte afterwards, on refusals too, are given by the definitions of part_format.
 mod transition;
 
 use encoding::check::identity_valid;
