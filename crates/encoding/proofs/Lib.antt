@@ -1,2 +1,3 @@
--- Laws of the definitions, one for each way that the reader ends, which the functions' proofs cite.
+-- Laws of the definitions, one for each way that a function ends, which the functions' proofs cite.
+pub mod Checks
 pub mod Heard

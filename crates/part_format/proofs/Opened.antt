@@ -1,15 +1,15 @@
--- What a state that is not refused is: nine bytes of a valid state whose mark is open; and what the test of an open state comes to. Assumes nothing.
+-- What a state that is not refused is: nine bytes of a valid state whose mark is open. Assumes nothing.
 use mathlib.Core.Path.{_≡_, refl, sym, _∙_}
 use mathlib.Core.List.{List}
 use mathlib.Core.Bool.{Bool, true, false, cond, not, _&&_}
-use Prim.Native.Nat.{ℕ, _+_, _≤_, _<_}
+use Prim.Native.Nat.{ℕ}
 use native.Mathlib.Omega.{arith}
-use lib.Dec.{eqb, leb}
+use lib.Dec.{eqb}
 use lib.ListN.{length, getD}
-use borrow.Author.Tests.{eqb-true, leb-true, le-leb}
-use Rattle.part_format.specs.PartState.{fieldsValid, stateValid, stateFrom, stateRefusal}
-use Rattle.general.proofs.Tests.{both, refuted, same-test}
-use Rattle.part_format.proofs.Valid.{Identity, Within, round-within, fields-say, within-valid}
+use borrow.Author.Tests.{eqb-true}
+use Rattle.part_format.specs.PartState.{stateValid, stateFrom, stateRefusal}
+use Rattle.general.proofs.Tests.{both}
+use Rattle.part_format.proofs.Valid.{Identity, Within, round-within, fields-say}
 
 pub record Opened (b : List ℕ) : Type 0 where
   pub refusal : stateRefusal b ≡ 0
@@ -39,22 +39,3 @@ opened b k ek e =
       identity = fields .identity;
       round = round-within _ _ _ _ (λ h. omega arith) (fields .round-valid);
     }
-
--- The bytes of a valid open state, its value apart.
-module _ (p n t round : ℕ) where
-  open-say : fieldsValid p n t round 0 ≡ true → Identity p n t × Within p t round
-  open-say e =
-      let fields = fields-say p n t round 0 e in
-      (fields .identity, round-within p t round 0 (λ z. omega arith) (fields .round-valid))
-
-  pub open-fails : (Identity p n t → Within p t round → ⊥) → false ≡ fieldsValid p n t round 0
-  open-fails h = refuted (fieldsValid p n t round 0) (λ e. h (open-say e .0) (open-say e .1))
-
-  pub open-last : 1 ≤ round → round ≤ t + 1 → round ≤ p → p ≤ n → t < n → leb n 64 ≡ fieldsValid p n t round 0
-  open-last a b d e f =
-      same-test (leb n 64) (fieldsValid p n t round 0)
-      (λ h.
-      let small : n ≤ 64 = leb-true n 64 h in
-      let identity : Identity p n t = record { process = omega arith; within = e; processes = small; resilience = f } in
-      within-valid identity (omega arith) (record { first = a; last = omega arith; own = d }))
-      (λ h. le-leb n 64 (open-say h .0 .processes))

@@ -1,17 +1,14 @@
--- What the checks of a state come to, one law for each way that they end, what they say where they pass, and which fields pass them. Assumes nothing.
+-- What a state says that passes the checks, and which fields pass them. Assumes nothing.
 use mathlib.Core.Path.{_≡_, refl}
-use mathlib.Core.List.{List}
 use mathlib.Core.Bool.{Bool, true, false, _&&_}
-use Prim.Native.Nat.{ℕ, suc, _+_, _≤_, _<_}
+use Prim.Native.Nat.{ℕ, suc, _≤_, _<_}
 use native.Mathlib.Omega.{arith}
-use native.Mathlib.Numerals.{add-one}
 use lib.Dec.{eqb, leb, ltb}
-use lib.ListN.{length, getD}
-use borrow.Author.Tests.{leb-true, eqb-true, eqb-false, le-leb, lt-leb, lt-ltb, eq-eqb, ne-eqb}
-use Rattle.general.proofs.Tests.{both, refuted}
+use borrow.Author.Tests.{leb-true, eqb-true, eqb-false, le-leb, lt-ltb, eq-eqb, ne-eqb}
+use Rattle.general.proofs.Tests.{both}
 use Rattle.protocol.specs.Instance.{withinLimits}
 use Rattle.protocol.proofs.Limits.{limits-hold, limits-pass}
-use Rattle.part_format.specs.PartState.{identityValid, roundValid, fieldsValid, stateValid, stateFrom, stateRefusal}
+use Rattle.part_format.specs.PartState.{identityValid, roundValid, fieldsValid}
 
 -- Within the limits every number is a byte.
 pub record Identity (p n t : ℕ) : Type 0 where
@@ -32,50 +29,6 @@ identity-says p n t e =
       processes = limits .at-most-64;
       resilience = limits .fewer-crashes;
     }
-
-module _ (p n t : ℕ) where
-  pub identity-fails : (Identity p n t → ⊥) → false ≡ identityValid p n t
-  identity-fails h = refuted (identityValid p n t) (λ e. h (identity-says p n t e))
-
-  pub identity-last : t < n → n ≤ 64 → 1 ≤ p → leb p n ≡ identityValid p n t
-  unfolding identityValid
-  identity-last a b d = rw (limits-pass n t (record { some-process = omega arith; at-most-64 = b; fewer-crashes = a }), le-leb 1 p d)
-
--- A round that goes with its mark; the code has t + 1 for `suc t`.
-module _ (p t round mark : ℕ) where
-  pub over-other : mark ≡ 2 → (round ≡ t + 1 → ⊥) → false ≡ roundValid p t round mark
-  unfolding roundValid
-  over-other a b = let e : round ≡ suc t → ⊥ = rw add-one at b in simp (eq-eqb, ne-eqb)
-
-  pub over-last : mark ≡ 2 → round ≡ t + 1 → ltb (t + 1) p ≡ roundValid p t round mark
-  unfolding roundValid
-  over-last a b = let e : round ≡ suc t = rw add-one at b in rw add-one (simp eq-eqb)
-
-  pub round-zero : (mark ≡ 2 → ⊥) → round < 1 → false ≡ roundValid p t round mark
-  unfolding roundValid
-  round-zero a b = simp (ne-eqb, lt-leb)
-
-  pub round-late : (mark ≡ 2 → ⊥) → 1 ≤ round → t + 1 < round → false ≡ roundValid p t round mark
-  unfolding roundValid
-  round-late a b d = let e : suc t < round = rw add-one at d in simp (ne-eqb, le-leb, lt-leb)
-
-  pub round-own : (mark ≡ 2 → ⊥) → 1 ≤ round → round ≤ t + 1 → leb round p ≡ roundValid p t round mark
-  unfolding roundValid
-  round-own a b d = let e : round ≤ suc t = rw add-one at d in simp (ne-eqb, le-leb)
-
--- The bytes of a state, its value apart.
-module _ (p n t round mark : ℕ) where
-  pub fields-identity : identityValid p n t ≡ false → false ≡ fieldsValid p n t round mark
-  unfolding fieldsValid
-  fields-identity a = simp a
-
-  pub fields-mark : identityValid p n t ≡ true → 2 < mark → false ≡ fieldsValid p n t round mark
-  unfolding fieldsValid
-  fields-mark a b = simp (a, lt-leb)
-
-  pub fields-round : identityValid p n t ≡ true → mark ≤ 2 → roundValid p t round mark ≡ fieldsValid p n t round mark
-  unfolding fieldsValid
-  fields-round a b = simp (a, le-leb)
 
 -- An open or decided state's round.
 pub record Within (p t round : ℕ) : Type 0 where
@@ -136,28 +89,3 @@ within-valid {p} {n} {t} {round} {mark} i m w =
 pub over-valid : {p n t : ℕ} → Identity p n t → suc t < p → fieldsValid p n t (suc t) 2 ≡ true
 unfolding fieldsValid roundValid
 over-valid {p} {n} {t} i h = rw (identity-holds i, eq-eqb (suc t) (suc t) refl, lt-ltb (suc t) p h)
-
--- The refusal that speaking and closing share.
-module _ (b : List ℕ) where
-  pub state-length : (length b ≡ 9 → ⊥) → 10 ≡ stateRefusal b
-  unfolding stateRefusal
-  state-length a = simp ne-eqb
-
-  -- Where the mark is open, what the test of an open state comes to.
-  pub open-marked : getD b 4 0 ≡ 0 → (x : Bool) → x ≡ fieldsValid (getD b 0 0) (getD b 1 0) (getD b 2 0) (getD b 3 0) 0 → stateValid (stateFrom b) ≡ x
-  unfolding stateValid stateFrom
-  open-marked h x e = rw (h, e)
-
-  module _ (nine : length b ≡ 9) where
-    pub state-invalid : stateValid (stateFrom b) ≡ false → 10 ≡ stateRefusal b
-    unfolding stateRefusal
-    state-invalid a = simp (eq-eqb, a)
-
-    module _ (valid : stateValid (stateFrom b) ≡ true) where
-      pub state-ended : (getD b 4 0 ≡ 0 → ⊥) → 11 ≡ stateRefusal b
-      unfolding stateRefusal stateFrom
-      state-ended a = simp (eq-eqb, valid, ne-eqb)
-
-      pub state-open : getD b 4 0 ≡ 0 → 0 ≡ stateRefusal b
-      unfolding stateRefusal stateFrom
-      state-open a = simp (eq-eqb, valid)

@@ -1,2 +1,4 @@
--- Laws of the definitions, one for each way that a round closes, which the functions' proofs cite.
+-- Laws of the definitions, one for each way that a function ends, which the functions' proofs cite.
+pub mod Bytes
 pub mod Closing
+pub mod Operations

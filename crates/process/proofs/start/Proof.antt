@@ -7,7 +7,8 @@ use borrow.Author.Tests.{not-true, not-false}
 use Rattle.part_format.specs.PartState.{identityValid}
 use Rattle.part_format.specs.Start.{startState}
 use Rattle.part_format.proofs.Valid.{identity-says}
-use Rattle.part_format.proofs.Operations.{start-identity, start-length, start-written}
+use Rattle.part_format.proofs.Operations.{start-written}
+use Rattle.process.proofs.Operations.{start-identity, start-length}
 use Rattle.process.proofs.start.Statement.{statement}
 use Rattle.process.proofs.start.Tie as tie
 
