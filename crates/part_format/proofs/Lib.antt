@@ -12,3 +12,4 @@ pub mod StaysValid
 pub mod Leaves
 pub mod Exchange
 pub mod Refused
+pub mod Example

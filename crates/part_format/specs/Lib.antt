@@ -7,3 +7,4 @@ pub mod Leaves
 pub mod Case
 pub mod PartCases
 pub mod Refused
+pub mod Example
