@@ -1,4 +1,5 @@
-//! The tickets of the twelve marked cases (01, "Worked runs").
+//! The tickets of the twelve marked cases (01, "Worked runs"), and of other runs
+//! worked out by hand.
 
 use crate::ticket::{Failure, Ticket};
 
@@ -35,6 +36,29 @@ pub fn case(number: u8) -> Ticket {
         12 => four(vec![Failure { round: 2, ..after_commits(3, 0) }]),
         _ => panic!("no case {number} is marked"),
     }
+}
+
+/// The runs worked out by hand: cases 1 to 9, and four that show what no case
+/// does. They are those of `../crates/protocol/specs/WorkedTable.antt`.
+pub fn runs() -> [(&'static str, Ticket); 13] {
+    let silent = Failure::before_sending;
+    let three = Ticket { n: 3, t: 2, proposals: vec![10, 20, 30], failures: vec![] };
+    let three_crash = vec![Failure::sending_commits(1, 1), silent(2, 1), silent(3, 2)];
+    [
+        ("case 1", case(1)),
+        ("case 2", case(2)),
+        ("case 3", case(3)),
+        ("case 4", case(4)),
+        ("case 5", case(5)),
+        ("case 6", case(6)),
+        ("case 7", case(7)),
+        ("case 8", case(8)),
+        ("case 9", case(9)),
+        ("one crashes later", Ticket { failures: vec![silent(1, 1), silent(2, 2)], ..three }),
+        ("silent at last", Ticket { t: 3, ..four(three_crash) }),
+        ("no commit", four(vec![Failure::sending_commits(1, 0)])),
+        ("two reached", four(vec![Failure::sending_data(1, 0b0110)])),
+    ]
 }
 
 #[cfg(test)]

@@ -1,5 +1,5 @@
 //! For every wrong world, the claims that fail in it, on every failure pattern
-//! of at most four processes and on the worked cases.
+//! of at most four processes and on the worked runs.
 
 use std::collections::BTreeSet;
 use std::fs;
@@ -8,10 +8,12 @@ use std::path::{Path, PathBuf};
 use second::generate;
 use second::rng::Rng;
 use second::ticket::MOST_PROCESSES;
-use second::worked::case;
-use second::worlds::claims::{answer, answer_of_simulation, Claim, CLAIMS};
-use second::worlds::rules::RIGHT;
-use second::worlds::search::{counterexample, runs, CASES_RUN};
+use second::worked;
+use second::worlds::claims::{answer, answer_of_simulation, Answer, Claim, CLAIMS};
+use second::worlds::model::Counts;
+use second::worlds::model::State::{Crashed, Decided};
+use second::worlds::rules::{Rules, RIGHT};
+use second::worlds::search::{counterexample, runs};
 use second::worlds::wrong::worlds;
 use second::worlds::World;
 
@@ -29,7 +31,8 @@ fn under_the_right_rules_the_model_is_the_second_implementation() {
 #[test]
 fn under_the_right_rules_no_claim_has_a_counterexample() {
     let runs = runs(&RIGHT);
-    for claim in CLAIMS.into_iter().chain(CASES_RUN.map(Claim::WorkedCase)) {
+    let worked_runs = worked::runs().map(|(name, _)| Claim::WorkedRun(name));
+    for claim in CLAIMS.into_iter().chain(worked_runs) {
         if let Some(found) = counterexample(claim, &runs, &RIGHT) {
             panic!("{claim}: {found}");
         }
@@ -45,6 +48,8 @@ fn in_a_wrong_world_just_the_claims_fail_that_it_names() {
             let found = counterexample(claim, &runs, &world.rules);
             assert!(found.is_some(), "{}: {claim} holds", world.name);
         }
+        let by_a_worked_run = world.breaks.iter().any(|claim| matches!(claim, Claim::WorkedRun(_)));
+        assert!(!by_a_worked_run || world.breaks.len() == 1, "{}", world.name);
         for claim in CLAIMS.into_iter().filter(|claim| !world.breaks.contains(claim)) {
             if let Some(found) = counterexample(claim, &runs, &world.rules) {
                 panic!("{}: {claim}: {found}", world.name);
@@ -53,52 +58,143 @@ fn in_a_wrong_world_just_the_claims_fail_that_it_names() {
     }
 }
 
-/// The edit that `crate_and_name` names.
-fn edit(crate_and_name: &str) -> PathBuf {
-    let (folder, name) = crate_and_name.split_once('/').expect("crate/name");
-    let crates = Path::new(env!("CARGO_MANIFEST_DIR")).join("../crates");
-    crates.join(folder).join("must-fail").join(name).with_extension("edit")
+/// The folder of a crate's edits.
+fn edits_of(of_crate: &str) -> PathBuf {
+    Path::new(env!("CARGO_MANIFEST_DIR")).join("../crates").join(of_crate).join("must-fail")
 }
 
 #[test]
-fn every_edit_of_the_protocol_has_a_world_and_every_world_an_edit() {
-    let names: BTreeSet<String> = worlds().map(|world| world.name.to_string()).collect();
+fn every_edit_of_the_protocol_has_a_world() {
+    let names: BTreeSet<&str> = worlds().map(|world| world.name).collect();
     assert_eq!(names.len(), worlds().count());
-    for name in &names {
-        assert!(edit(name).is_file(), "{name}");
-    }
-    let edits = fs::read_dir(edit("protocol/any").parent().expect("a folder"));
-    for entry in edits.expect("the edits of the protocol") {
+    for entry in fs::read_dir(edits_of("protocol")).expect("the edits of the protocol") {
         let path = entry.expect("an entry").path();
         let name = path.file_stem().and_then(|stem| stem.to_str()).expect("a name");
-        assert!(names.contains(&format!("protocol/{name}")), "{name}");
+        assert!(names.contains(format!("protocol/{name}").as_str()), "{name}");
     }
 }
 
-/// The wrong result lines that an edit of the worked cases puts in a table.
-fn wrong_figures(crate_and_name: &str) -> Vec<String> {
-    let text = fs::read_to_string(edit(crate_and_name)).expect("the edit");
-    let new = text.lines().find(|line| line.starts_with("new:")).expect("the new line");
-    new.split('"').skip(1).step_by(2).map(String::from).collect()
+#[test]
+fn a_world_that_is_named_by_an_edit_has_it() {
+    for (of_crate, name) in worlds().filter_map(World::edit) {
+        assert!(["protocol", "formats"].contains(&of_crate), "{of_crate}/{name}");
+        let edit = edits_of(of_crate).join(format!("{name}.edit"));
+        assert!(edit.is_file(), "{of_crate}/{name}");
+    }
+}
+
+/// What is said of a worked run under `rules`.
+fn said_under(rules: &Rules, run: &str) -> Answer {
+    let named = worked::runs().into_iter().find(|(name, _)| *name == run);
+    answer(&named.expect(run).1, rules)
+}
+
+/// What is said of a worked run in a world.
+fn said(world: &str, run: &str) -> Answer {
+    let world = worlds().find(|other| other.name == world).expect(world);
+    said_under(&world.rules, run)
+}
+
+/// Of a worked run: the rounds, f, the speakers, data and commits; the last
+/// round to decide in and the most messages; the rounds that qualify for
+/// settling.
+type Figures = (&'static str, [u64; 5], (u8, u64), &'static [u8]);
+
+#[test]
+fn the_figures_of_the_worked_runs() {
+    let figures: [Figures; 13] = [
+        ("case 1", [2, 1, 2, 5, 3], (2, 9), &[1, 2]),
+        ("case 2", [1, 0, 1, 0, 0], (1, 0), &[1]),
+        ("case 3", [1, 1, 1, 3, 3], (2, 6), &[1]),
+        ("case 4", [2, 1, 2, 3, 2], (2, 9), &[2]),
+        ("case 5", [2, 1, 2, 3, 2], (2, 9), &[2]),
+        ("case 6", [3, 2, 2, 1, 1], (3, 9), &[3]),
+        ("case 7", [2, 1, 2, 5, 3], (2, 9), &[1, 2]),
+        ("case 8", [1, 0, 1, 3, 3], (1, 6), &[1]),
+        ("case 9", [7, 9, 7, 42, 21], (10, 63), &[1, 2, 3, 4, 5, 6, 7]),
+        ("one crashes later", [3, 2, 3, 0, 0], (3, 3), &[2, 3]),
+        ("silent at last", [2, 3, 1, 3, 1], (4, 6), &[1, 2]),
+        ("no commit", [2, 1, 2, 5, 2], (2, 9), &[1, 2]),
+        ("two reached", [2, 1, 2, 4, 2], (2, 9), &[2]),
+    ];
+    assert_eq!(figures.map(|(name, ..)| name), worked::runs().map(|(name, _)| name));
+    for (name, counted, limits, settling_rounds) in figures {
+        let said = said_under(&RIGHT, name);
+        let Counts { rounds, speakers, data, commits } = said.counts;
+        assert_eq!([rounds.into(), said.f.into(), speakers, data, commits], counted, "{name}");
+        assert_eq!(said.limits, limits, "{name}");
+        assert_eq!(said.settling_rounds, settling_rounds, "{name}");
+    }
+}
+
+/// 01, "Mistakes this must shut out".
+#[test]
+fn the_five_mistakes_in_worked_cases() {
+    // "Station r + 1 then decides and stays silent in its round while higher
+    // ones wait."
+    let upward = said("protocol/commits-go-upward", "case 1");
+    assert_eq!(upward.ends, [Crashed(1), Decided(1, 10), Decided(3, 10), Decided(3, 10)]);
+
+    // "In case 5 station 4 would keep 10 and the rest 20."
+    let on_data = said("protocol/decides-on-data-alone", "case 5");
+    assert_eq!(on_data.ends, [Crashed(1), Decided(2, 20), Decided(2, 20), Decided(1, 10)]);
+
+    // "Leaving dark stations out of the commit list, which shifts who gets the
+    // first commits": 7 and 6, in the place of 9 and 8.
+    let left_out = said("protocol/crashed-left-out-of-the-commit-list", "case 9");
+    let (first, rest) = left_out.ends.split_at(5);
+    assert_eq!(first, [1, 2, 3, 4, 5].map(Crashed));
+    assert_eq!(rest, [Decided(1, 10), Decided(1, 10), Crashed(1), Crashed(1), Decided(1, 10)]);
+
+    // "Counting idle lines in f, which loosens the bound on rounds."
+    let idle = said("protocol/idle-lines-counted-in-f", "case 8");
+    assert_eq!((idle.f, idle.limits.0), (1, 2));
+
+    // "Letting a station hear in the round it goes dark": 8 and 9 decide.
+    let hears = said("protocol/hears-in-the-round-of-its-crash", "case 9");
+    let (first, rest) = hears.ends.split_at(7);
+    assert_eq!(first, [1, 2, 3, 4, 5, 6, 7].map(Crashed));
+    assert_eq!(rest, [Decided(1, 10); 3]);
+}
+
+/// 01, "Which impostors must it catch?": "running round 1 and marking the rest
+/// decided (demand 2, case 6)".
+#[test]
+fn the_nearest_impostor_in_case_6() {
+    let marked = said("round 1 is run and the rest marked decided", "case 6");
+    assert_eq!(marked.ends, [Crashed(1), Crashed(1), Decided(1, 30), Decided(1, 40)]);
+    assert_eq!(marked.counts, Counts { rounds: 1, speakers: 1, data: 0, commits: 0 });
 }
 
 #[test]
-fn the_wrong_figures_of_worked_cases_are_those_of_the_wrong_worlds() {
-    let shown = [
-        ("protocol/commits-go-upward", "cases/commits-go-upward", 1),
-        ("protocol/decides-on-data-alone", "cases/decides-on-data-alone", 5),
-        ("protocol/idle-lines-counted-in-f", "cases/idle-lines-counted-in-f", 8),
-        ("cases/all-decided-after-round-one", "cases/all-decided-after-round-one", 6),
-        ("cases/hears-in-the-round-of-its-crash", "cases/hears-in-the-round-of-its-crash", 9),
-        (
-            "cases/crashed-left-out-of-the-commit-list",
-            "cases/crashed-left-out-of-the-commit-list",
-            9,
-        ),
+fn counts_that_no_bound_refuses() {
+    assert_eq!(said("protocol/silent-rounds-not-counted", "silent at last").counts.rounds, 1);
+    assert_eq!(said("protocol/data-counted-as-the-commits", "case 9").counts.data, 21);
+    assert_eq!(said("protocol/unsent-data-counted", "case 6").counts.data, 4);
+}
+
+/// 01, case 9: "sum 63, the bound exactly; document 001 gives 55".
+#[test]
+fn other_limits_of_case_9() {
+    assert_eq!(said("formats/bound-of-theorem-2", "case 9").limits, (10, 55));
+    assert_eq!(said("protocol/bound-too-low", "case 9").limits, (10, 62));
+    assert_eq!(said("protocol/bound-too-high", "case 9").limits, (10, 64));
+    assert_eq!(said("protocol/one-round-more-to-decide", "case 9").limits, (11, 63));
+}
+
+#[test]
+fn other_rounds_that_settle() {
+    let figures: [(&str, &str, &[u8]); 8] = [
+        ("protocol/crashed-processes-hold-values", "case 1", &[]),
+        ("protocol/settled-as-the-round-begins", "case 5", &[]),
+        ("protocol/every-round-settles", "case 5", &[1, 2]),
+        ("protocol/settled-by-the-decided-alone", "case 5", &[1, 2]),
+        ("protocol/settled-by-who-never-crashes", "one crashes later", &[1, 2, 3]),
+        ("protocol/round-0-settles", "case 2", &[0, 1]),
+        ("protocol/settles-after-the-end", "case 1", &[1, 2, 3]),
+        ("formats/only-the-last-round-settles", "case 1", &[2]),
     ];
-    for (name, figures, number) in shown {
-        let world: &World = worlds().find(|world| world.name == name).expect(name);
-        let lines = answer(&case(number), &world.rules).result_lines();
-        assert_eq!(lines, wrong_figures(figures), "{name}");
+    for (world, run, settling_rounds) in figures {
+        assert_eq!(said(world, run).settling_rounds, settling_rounds, "{world}");
     }
 }

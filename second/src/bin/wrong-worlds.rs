@@ -1,8 +1,9 @@
 //! Prints the wrong worlds: for each of them the claims that fail, each with
-//! its first counterexample, and the worked cases that come out otherwise.
+//! its first counterexample, and the worked runs that come out otherwise.
 
+use second::worked;
 use second::worlds::claims::Claim;
-use second::worlds::search::{counterexample, runs, CASES_RUN};
+use second::worlds::search::{counterexample, runs};
 use second::worlds::wrong::worlds;
 use second::worlds::World;
 
@@ -22,9 +23,9 @@ fn print_world(world: &World) {
         }
     }
     let differs =
-        |&number: &u8| counterexample(Claim::WorkedCase(number), &[], &world.rules).is_some();
-    let cases: Vec<String> = CASES_RUN.filter(differs).map(|number| number.to_string()).collect();
-    if !cases.is_empty() {
-        println!("    worked cases that differ: {}", cases.join(", "));
+        |name: &&'static str| counterexample(Claim::WorkedRun(name), &[], &world.rules).is_some();
+    let names: Vec<_> = worked::runs().map(|(name, _)| name).into_iter().filter(differs).collect();
+    if !names.is_empty() {
+        println!("    worked runs that differ: {}", names.join(", "));
     }
 }

@@ -1,9 +1,9 @@
-//! What is claimed of a run, of two paired runs, and of the worked cases.
+//! What is claimed of a run, of two paired runs, and of the worked runs.
 
 use std::fmt;
 
 use super::model::{Counts, Run, State};
-use super::rules::{Rules, RIGHT};
+use super::rules::{right, Rules};
 use crate::process::Status;
 use crate::simulation::{Simulation, Totals};
 use crate::ticket::{Failure, Ticket};
@@ -34,16 +34,23 @@ pub enum Claim {
     SpeakersWithinBound,
     /// Data and commits are at most k(2n − k − 1) − k(k − 1)/2.
     MessagesWithinBound,
-    /// Rounds, speakers, data and commits are those of the rounds as they were.
-    CountsOfTheRun,
+    /// The run's rounds are the last that began with a process up and undecided.
+    CountsRounds,
+    /// Speakers are the coordinators that began their own round up and undecided.
+    CountsSpeakers,
+    /// The messages counted of a round are as many as the processes that they
+    /// reach.
+    CountsReached,
     /// The run has a last round, and that round qualifies for settling.
     LastRoundSettles,
-    /// The result and the settling rounds of worked case 1 to 9.
-    WorkedCase(u8),
+    /// Each claim of demand 3 refuses the ends that are wrong by it.
+    RefusesImpostors,
+    /// The [`Answer`] for the worked run of this name.
+    WorkedRun(&'static str),
 }
 
-/// The claims about every ticket.
-pub const CLAIMS: [Claim; 12] = [
+/// All claims but those of the worked runs.
+pub const CLAIMS: [Claim; 15] = [
     Claim::Agreement,
     Claim::Validity,
     Claim::Termination,
@@ -54,8 +61,11 @@ pub const CLAIMS: [Claim; 12] = [
     Claim::NoLater,
     Claim::SpeakersWithinBound,
     Claim::MessagesWithinBound,
-    Claim::CountsOfTheRun,
+    Claim::CountsRounds,
+    Claim::CountsSpeakers,
+    Claim::CountsReached,
     Claim::LastRoundSettles,
+    Claim::RefusesImpostors,
 ];
 
 impl fmt::Display for Claim {
@@ -71,16 +81,20 @@ impl fmt::Display for Claim {
             Claim::NoLater => write!(f, "the pair: no later"),
             Claim::SpeakersWithinBound => write!(f, "k ≤ f + 1"),
             Claim::MessagesWithinBound => write!(f, "messages within the bound by speakers"),
-            Claim::CountsOfTheRun => write!(f, "counts of the run"),
+            Claim::CountsRounds => write!(f, "rounds end when none is undecided"),
+            Claim::CountsSpeakers => write!(f, "speakers begin their rounds undecided"),
+            Claim::CountsReached => write!(f, "messages counted are those that reach a process"),
             Claim::LastRoundSettles => write!(f, "the last round settles"),
-            Claim::WorkedCase(number) => write!(f, "worked case {number}"),
+            Claim::RefusesImpostors => write!(f, "wrong ends are refused"),
+            Claim::WorkedRun(name) => write!(f, "worked run, {name}"),
         }
     }
 }
 
 impl Claim {
-    /// Whether the claim holds of a run. Of a run by itself the pair and the
-    /// worked cases say nothing: see [`no_later`] and [`answer`].
+    /// Whether the claim holds of a run. Of a run by itself the pair, the wrong
+    /// ends and the worked runs say nothing: see [`no_later`],
+    /// [`super::impostors`] and [`answer`].
     pub fn holds(self, ticket: &Ticket, run: &Run, rules: &Rules) -> bool {
         match self {
             Claim::Agreement => decisions(run).all(|(_, v)| decisions(run).all(|(_, w)| v == w)),
@@ -88,7 +102,7 @@ impl Claim {
             Claim::Termination => processes(run).all(|(fault, end)| {
                 crashes_undecided(fault, end, rules) || matches!(end, State::Decided(..))
             }),
-            Claim::EarlyDecision => decisions(run).all(|(round, _)| round <= (rules.latest)(run.f)),
+            Claim::EarlyDecision => decides_by((rules.latest)(run.f), run, rules),
             Claim::CrashesAsSaid => processes(run).all(|(fault, end)| match end {
                 State::Crashed(round) => {
                     crashes_undecided(fault, end, rules)
@@ -106,13 +120,34 @@ impl Claim {
             Claim::MessagesWithinBound => {
                 run.counts.data + run.counts.commits <= (rules.most_messages)(run)
             }
-            Claim::CountsOfTheRun => run.counts == run.counts(&RIGHT),
-            Claim::LastRoundSettles => {
-                run.settling_rounds(rules).last().is_some_and(|&round| round == run.counts.rounds)
+            Claim::CountsRounds => {
+                let undecided =
+                    |states: &[State]| states.iter().any(|&state| right::is_undecided(state));
+                let began = (1..).zip(rounds(run)).filter(|(_, states)| undecided(states));
+                run.counts.rounds == began.last().map_or(0, |(round, _)| round)
             }
-            Claim::NoLater | Claim::WorkedCase(_) => true,
+            Claim::CountsSpeakers => {
+                let own = rounds(run).enumerate().map(|(round, states)| states[round]);
+                run.counts.speakers
+                    == own.filter(|&state| right::is_undecided(state)).count() as u64
+            }
+            Claim::CountsReached => {
+                (1..=run.n).all(|round| run.messages(round, rules) == run.reached(round, rules))
+            }
+            Claim::LastRoundSettles => run.settling_rounds(rules).contains(&run.counts.rounds),
+            Claim::NoLater | Claim::RefusesImpostors | Claim::WorkedRun(_) => true,
         }
     }
+}
+
+/// Whether none decides after round `latest`.
+pub fn decides_by(latest: u8, run: &Run, rules: &Rules) -> bool {
+    decisions(run).all(|(round, _)| (rules.decides_by)(round, latest))
+}
+
+/// The states as each round began, from round 1 on.
+fn rounds(run: &Run) -> impl Iterator<Item = &[State]> {
+    run.history[..run.history.len() - 1].iter().map(Vec::as_slice)
 }
 
 /// The failure line and the end of each process.
@@ -130,7 +165,7 @@ fn decisions(run: &Run) -> impl Iterator<Item = (u8, u32)> + '_ {
 
 /// Whether a process has a failure line that is not idle.
 fn crashes_undecided(fault: Option<Failure>, end: State, rules: &Rules) -> bool {
-    fault.is_some_and(|failure| (rules.counts_as_crash)(failure.round, end))
+    fault.is_some_and(|failure| !(rules.is_idle)(failure.round, end))
 }
 
 /// The ends that f is held to, one for each process. One past the last process
@@ -153,42 +188,34 @@ pub fn no_later(first: &Run, second: &Run, rules: &Rules) -> bool {
     })
 }
 
-/// What is said of a ticket: all ends, f, the counts and the settling rounds.
+/// What is said of a ticket.
 #[derive(Clone, Debug, PartialEq, Eq)]
 pub struct Answer {
-    ends: Vec<State>,
-    f: u8,
-    counts: Counts,
-    settling_rounds: Vec<u8>,
-}
-
-impl Answer {
-    /// The lines of the result (01, "The result"). The end of a process that
-    /// is still undecided is 00.
-    pub fn result_lines(&self) -> Vec<String> {
-        let line = |(process, &end): (u8, &State)| {
-            let (end, round, value) = match end {
-                State::Undecided(value) => (0, 0, value),
-                State::Decided(round, value) => (1, round, value),
-                State::Crashed(round) => (2, round, 0),
-            };
-            format!("11{process:02X}{end:02X}{round:02X}{value:08X}")
-        };
-        let Counts { rounds, speakers, data, commits } = self.counts;
-        let f = self.f;
-        let last = format!("12{rounds:02X}{f:02X}{speakers:02X}{data:04X}{commits:04X}");
-        (1..).zip(&self.ends).map(line).chain([last]).collect()
-    }
+    /// The end of each process.
+    pub ends: Vec<State>,
+    /// f.
+    pub f: u8,
+    /// What is counted.
+    pub counts: Counts,
+    /// The last round in which one may decide, and the most messages.
+    pub limits: (u8, u64),
+    /// The rounds that qualify for settling.
+    pub settling_rounds: Vec<u8>,
 }
 
 /// What the model answers under `rules`.
 pub fn answer(ticket: &Ticket, rules: &Rules) -> Answer {
     let run = Run::new(ticket, rules);
-    let settling_rounds = run.settling_rounds(rules);
-    Answer { ends: run.ends().to_vec(), f: run.f, counts: run.counts, settling_rounds }
+    Answer {
+        ends: run.ends().to_vec(),
+        f: run.f,
+        counts: run.counts,
+        limits: ((rules.latest)(run.f), (rules.most_messages)(&run)),
+        settling_rounds: run.settling_rounds(rules),
+    }
 }
 
-/// What the second implementation answers.
+/// What the second implementation answers, with the limits that follow from it.
 pub fn answer_of_simulation(ticket: &Ticket) -> Answer {
     let mut simulation = Simulation::new(ticket);
     let Totals { rounds, crashes, speakers, data, commits } = simulation.run(|_, _| {});
@@ -201,5 +228,6 @@ pub fn answer_of_simulation(ticket: &Ticket) -> Answer {
         Counts { rounds, speakers: speakers.into(), data: data.into(), commits: commits.into() };
     let settling_rounds = Simulator::new().settling_rounds(&ticket.text());
     let settling_rounds = settling_rounds.expect("an accepted ticket");
-    Answer { ends: ends.collect(), f: crashes, counts, settling_rounds }
+    let limits = (crashes + 1, right::bound_by_speakers(ticket.n, counts.speakers));
+    Answer { ends: ends.collect(), f: crashes, counts, limits, settling_rounds }
 }

@@ -105,13 +105,8 @@ pub struct Run {
 impl Run {
     /// The run of `ticket` under `rules`.
     pub fn new(ticket: &Ticket, rules: &Rules) -> Run {
-        let mut faults = vec![None; usize::from(ticket.n)];
-        for failure in &ticket.failures {
-            faults[usize::from(failure.process) - 1] = Some(*failure);
-        }
         let initial = ticket.proposals.iter().map(|&proposal| (rules.initial)(proposal));
-        let history = vec![initial.collect()];
-        let mut run = Run { n: ticket.n, faults, history, counts: Counts::default(), f: 0 };
+        let mut run = Run::of_states(ticket, initial.collect());
         for round in 1..=(rules.last_round)(ticket.t) {
             let states = run.states_after((rules.round_run)(round), run.ends(), rules);
             run.history.push(states);
@@ -121,6 +116,15 @@ impl Run {
         run
     }
 
+    /// A run of no round that begins with these states.
+    pub fn of_states(ticket: &Ticket, states: Vec<State>) -> Run {
+        let mut faults = vec![None; usize::from(ticket.n)];
+        for failure in &ticket.failures {
+            faults[usize::from(failure.process) - 1] = Some(*failure);
+        }
+        Run { n: ticket.n, faults, history: vec![states], counts: Counts::default(), f: 0 }
+    }
+
     /// The last state of each process.
     pub fn ends(&self) -> &[State] {
         self.history.last().expect("the states before round 1 at least")
@@ -128,10 +132,8 @@ impl Run {
 
     /// How many failure lines count as a crash, if the processes end so.
     pub fn lines_that_count(&self, ends: &[State], rules: &Rules) -> u8 {
-        let counts = |(fault, &end): (&Option<Failure>, &State)| {
-            fault.is_some_and(|failure| (rules.counts_as_crash)(failure.round, end))
-        };
-        self.faults.iter().zip(ends).filter(|&line| counts(line)).count() as u8
+        let lines = self.faults.iter().zip(ends);
+        lines.filter(|(&fault, &end)| counts_in_f(fault, end, rules)).count() as u8
     }
 
     fn fault(&self, process: u8) -> Option<Failure> {
@@ -152,6 +154,7 @@ impl Run {
             let State::Undecided(estimate) = state else {
                 return state;
             };
+            let sending = Sending { n: (rules.commit_list)(&sending, process), ..sending };
             let reach = reach(&sending, self.fault(coordinator), process, rules);
             let heard = (rules.hears)(reach, sent_by);
             let step = Step { round, process, estimate, heard };
@@ -177,30 +180,60 @@ impl Run {
         let last = self.history.len() as u8 - 1;
         for (round, states) in (1..=last).map(rules.round_run).zip(&self.history) {
             let goes_on = states.iter().any(|&state| (rules.is_undecided)(state));
-            counts.rounds = (rules.rounds)(goes_on, round, counts.rounds);
             let coordinator = (rules.coordinator)(round, self.n);
-            if (rules.speaks)(states[usize::from(coordinator) - 1]) {
-                let line = self.fault(coordinator).filter(|failure| failure.round == round);
-                let crash = line.map(|failure| failure.crash);
+            let speaks = (rules.speaks)(states[usize::from(coordinator) - 1]);
+            if (rules.round_counts)(goes_on, speaks) {
+                counts.rounds = round;
+            }
+            if speaks {
+                let (data, commits) = self.messages(round, rules);
                 counts.speakers += 1;
-                counts.data += (rules.data_sent)(self.n, round, crash);
-                counts.commits += (rules.commits_sent)(self.n, round, crash);
+                counts.data += data;
+                counts.commits += commits;
             }
         }
         counts
     }
 
-    /// The rounds that qualify for settling, in order.
-    pub fn settling_rounds(&self, rules: &Rules) -> Vec<u8> {
-        let last = self.counts.rounds;
-        let one_value = |&round: &u8| {
-            let states = self.history[usize::from(round)].iter();
-            let mut values = states.filter_map(|&state| (rules.value_held)(state));
-            let first = values.next();
-            values.all(|value| Some(value) == first)
-        };
-        (1..=last).filter(|&round| (rules.may_settle)(round, last)).filter(one_value).collect()
+    /// The data messages and the commits that `rules` count of `round`, if its
+    /// coordinator speaks.
+    pub fn messages(&self, round: u8, rules: &Rules) -> (u64, u64) {
+        let line = self.fault((rules.coordinator)(round, self.n));
+        let crash = line.filter(|failure| failure.round == round).map(|failure| failure.crash);
+        ((rules.data_sent)(self.n, round, crash), (rules.commits_sent)(self.n, round, crash))
     }
+
+    /// How many processes the data messages of `round` reach, and how many its
+    /// commits, if its coordinator speaks. Who has crashed is not looked at.
+    pub fn reached(&self, round: u8, rules: &Rules) -> (u64, u64) {
+        let fault = self.fault((rules.coordinator)(round, self.n));
+        let sending = Sending { n: self.n, round, crashed: 0 };
+        let reach = |to| reach(&sending, fault, to, rules);
+        let data = (1..=self.n).filter(|&to| reach(to) != Reach::None).count();
+        let commits = (1..=self.n).filter(|&to| reach(to) == Reach::All).count();
+        (data as u64, commits as u64)
+    }
+
+    /// The rounds that qualify for settling, in order. Round 0, and rounds after
+    /// the run's, are looked at too.
+    pub fn settling_rounds(&self, rules: &Rules) -> Vec<u8> {
+        let last = self.history.len() as u8 - 1;
+        let one_value = |&round: &u8| {
+            let states = &self.history[usize::from((rules.settled_at_end_of)(round))];
+            let processes = states.iter().zip(self.faults.iter().zip(self.ends()));
+            let held = processes.filter_map(|(&state, (&fault, &end))| {
+                (rules.value_held)(state, counts_in_f(fault, end, rules))
+            });
+            (rules.one_value)(&held.collect::<Vec<_>>())
+        };
+        let may_settle = |&round: &u8| (rules.may_settle)(round, self.counts.rounds, last);
+        (0..=last).filter(may_settle).filter(one_value).collect()
+    }
+}
+
+/// Whether a process has a failure line that counts in f, if it ends so.
+fn counts_in_f(fault: Option<Failure>, end: State, rules: &Rules) -> bool {
+    fault.is_some_and(|failure| (rules.counts_as_crash)((rules.is_idle)(failure.round, end)))
 }
 
 /// How far the messages of a coordinator with this fault get to process `to`.

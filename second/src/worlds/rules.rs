@@ -20,6 +20,8 @@ pub struct Rules {
     pub round_run: fn(u8) -> u8,
     /// The process whose state and failure line the messages of a round go by.
     pub coordinator: fn(round: u8, n: u8) -> u8,
+    /// n, as the commits to a process are counted off by it.
+    pub commit_list: fn(&Sending, to: u8) -> u8,
     /// How far messages to a process get from a coordinator that crashes so.
     pub reach_of_crashing: fn(&Sending, Crash, to: u8) -> Reach,
     /// How far they get if the failure line is of another round.
@@ -33,23 +35,35 @@ pub struct Rules {
 
     /// Whether a process in this state keeps the run going.
     pub is_undecided: fn(State) -> bool,
-    /// The run's rounds, from whether a round began with an undecided process.
-    pub rounds: fn(goes_on: bool, round: u8, before: u8) -> u8,
+    /// Whether a round is one of the run's, from whether it began with an
+    /// undecided process and whether its coordinator is a speaker.
+    pub round_counts: fn(goes_on: bool, speaks: bool) -> bool,
     /// Whether a coordinator that begins its round in this state is a speaker.
     pub speaks: fn(State) -> bool,
     /// The data messages of a speaker that crashes so in its round, or does not.
     pub data_sent: fn(n: u8, round: u8, Option<Crash>) -> u64,
     /// Its commits.
     pub commits_sent: fn(n: u8, round: u8, Option<Crash>) -> u64,
-    /// Whether a failure line of a round counts in f, from its process's end.
-    pub counts_as_crash: fn(round: u8, State) -> bool,
-    /// The value that a process holds for settling.
-    pub value_held: fn(State) -> Option<u32>,
-    /// Whether a round may settle a run that has so many.
-    pub may_settle: fn(round: u8, rounds: u8) -> bool,
+    /// Whether a failure line of a round is idle, from its process's end.
+    pub is_idle: fn(round: u8, State) -> bool,
+    /// Whether a failure line counts in f, from whether it is idle.
+    pub counts_as_crash: fn(idle: bool) -> bool,
+
+    /// Whether a round may settle a run that has so many rounds and could have
+    /// had rounds up to `last`.
+    pub may_settle: fn(round: u8, rounds: u8, last: u8) -> bool,
+    /// The round at whose end the values are looked at for settling.
+    pub settled_at_end_of: fn(round: u8) -> u8,
+    /// The value that a process holds for settling; `crashes` if its failure
+    /// line, be it of a later round, counts in f.
+    pub value_held: fn(State, crashes: bool) -> Option<u32>,
+    /// Whether the values held are one.
+    pub one_value: fn(&[u32]) -> bool,
 
     /// Claim: the last round in which a process may decide, from f.
     pub latest: fn(u8) -> u8,
+    /// Claim: whether one that decides in a round decides by the latest.
+    pub decides_by: fn(round: u8, latest: u8) -> bool,
     /// Claim: f, from how many processes end crashed.
     pub f_of_crashed: fn(u8) -> u8,
     /// Claim: the process whose end is the first that f is held to.
@@ -77,20 +91,25 @@ pub const RIGHT: Rules = Rules {
     last_round: |t| t + 1,
     round_run: |round| round,
     coordinator: |round, _| round,
+    commit_list: |sending, _| sending.n,
     reach_of_crashing: right::reach_of_crashing,
     reach_in_another_round: Reach::All,
     hears: right::hears,
     receives: right::receives,
     crashes: |step| State::Crashed(step.round),
     is_undecided: right::is_undecided,
-    rounds: |goes_on, round, before| if goes_on { round } else { before },
+    round_counts: |goes_on, _| goes_on,
     speaks: right::is_undecided,
     data_sent: right::data_sent,
     commits_sent: right::commits_sent,
-    counts_as_crash: right::counts_as_crash,
-    value_held: right::value_held,
-    may_settle: |_, _| true,
+    is_idle: right::is_idle,
+    counts_as_crash: |idle| !idle,
+    may_settle: |round, rounds, _| 1 <= round && round <= rounds,
+    settled_at_end_of: |round| round,
+    value_held: |state, _| right::value_held(state),
+    one_value: |values| values.iter().all(|value| *value == values[0]),
     latest: |f| f + 1,
+    decides_by: |round, latest| round <= latest,
     f_of_crashed: |crashed| crashed,
     ends_from: 1,
     most_speakers: |f| u64::from(f) + 1,
@@ -160,8 +179,8 @@ pub mod right {
     }
 
     /// A line is idle if its process decided in an earlier round.
-    pub fn counts_as_crash(round: u8, end: State) -> bool {
-        !matches!(end, State::Decided(decided, _) if decided < round)
+    pub fn is_idle(round: u8, end: State) -> bool {
+        matches!(end, State::Decided(decided, _) if decided < round)
     }
 
     /// Crashed processes hold none.

@@ -1,20 +1,18 @@
 //! The search for counterexamples: every failure pattern of a few processes,
-//! and the worked cases.
+//! and the worked runs.
 
 use std::fmt;
 
 use super::claims::{answer, answer_of_simulation, no_later, Claim};
+use super::impostors;
 use super::model::Run;
 use super::rules::{right, Rules};
 use crate::patterns::{combinations, failures_of};
 use crate::ticket::{Crash, Failure, Ticket};
-use crate::worked::case;
+use crate::worked;
 
 /// The most processes of a small ticket.
 pub const FEW_PROCESSES: u8 = 4;
-
-/// The worked cases that are run; the others are refused.
-pub const CASES_RUN: std::ops::RangeInclusive<u8> = 1..=9;
 
 /// A ticket, or two paired ones, of which a claim does not hold.
 #[derive(Clone, Debug)]
@@ -40,7 +38,7 @@ pub type TicketRun = (Ticket, Run);
 
 /// The runs of every ticket of at most four processes that the rules let pass,
 /// with every t and proposals all different, the smallest first; then those of
-/// the worked cases.
+/// the worked runs.
 pub fn runs(rules: &Rules) -> Vec<TicketRun> {
     let mut tickets = Vec::new();
     for n in 1..=FEW_PROCESSES {
@@ -53,7 +51,7 @@ pub fn runs(rules: &Rules) -> Vec<TicketRun> {
             tickets.extend(patterns.into_iter().map(ticket));
         }
     }
-    tickets.extend(CASES_RUN.map(case));
+    tickets.extend(worked::runs().map(|(_, ticket)| ticket));
     let with_run = |ticket: Ticket| {
         let run = Run::new(&ticket, rules);
         (ticket, run)
@@ -88,10 +86,11 @@ pub fn counterexample(claim: Claim, runs: &[TicketRun], rules: &Rules) -> Option
             let small = runs.iter().filter(|(ticket, _)| ticket.n <= FEW_PROCESSES);
             small.into_iter().find_map(|first| paired_counterexample(first, rules))
         }
-        Claim::WorkedCase(number) => {
-            let ticket = case(number);
-            let differs = answer(&ticket, rules) != answer_of_simulation(&ticket);
-            differs.then(|| alone(&ticket))
+        Claim::RefusesImpostors => impostors::passes(rules).as_ref().map(alone),
+        Claim::WorkedRun(name) => {
+            let differs = |ticket: &Ticket| answer(ticket, rules) != answer_of_simulation(ticket);
+            let named = worked::runs().into_iter().filter(|(other, _)| *other == name);
+            named.map(|(_, ticket)| ticket).find(differs).as_ref().map(alone)
         }
         _ => {
             let mut failing = runs.iter().filter(|(ticket, run)| !claim.holds(ticket, run, rules));

@@ -1,4 +1,4 @@
-//! The wrong worlds, by the names of the gate's edits.
+//! The wrong worlds, by the names of the gate's edits or in words.
 
 use super::claims::Claim::{self, *};
 use super::model::{Heard, Reach, Sending, State};
@@ -8,7 +8,7 @@ use crate::ticket::Crash;
 
 /// Every wrong world.
 pub fn worlds() -> impl Iterator<Item = &'static World> {
-    [PATTERNS, ROUNDS, MISTAKES, IMPOSTORS, COUNTS, CLAIMED, PAIRED].into_iter().flatten()
+    [PATTERNS, ROUNDS, MISTAKES, IMPOSTORS, COUNTS, SETTLING, CLAIMED, PAIRED].into_iter().flatten()
 }
 
 const fn world(name: &'static str, breaks: &'static [Claim], rules: Rules) -> World {
@@ -44,7 +44,7 @@ const ROUNDS: &[World] = &[
     ),
     world(
         "protocol/commits-leave-before-the-data",
-        &[Agreement, NoLater, LastRoundSettles],
+        &[Agreement, NoLater, CountsReached, LastRoundSettles],
         Rules {
             reach_of_crashing: |sending, crash, to| match right::reach_of_crashing(
                 sending, crash, to,
@@ -57,7 +57,7 @@ const ROUNDS: &[World] = &[
     ),
     world(
         "protocol/commits-only-above-the-count",
-        &[NoLater, MessagesWithinBound],
+        &[NoLater, MessagesWithinBound, CountsReached],
         Rules {
             reach_of_crashing: |sending, crash, to| {
                 commits_reach(sending, crash, to, |sent| to > sent)
@@ -83,7 +83,7 @@ const ROUNDS: &[World] = &[
     ),
     world(
         "protocol/fault-of-another-round-cuts-commits",
-        &[EarlyDecision, SpeakersWithinBound, MessagesWithinBound],
+        &[EarlyDecision, SpeakersWithinBound, MessagesWithinBound, CountsReached],
         Rules { reach_in_another_round: Reach::Data, ..RIGHT },
     ),
     world(
@@ -117,22 +117,17 @@ const MISTAKES: &[World] = &[
         },
     ),
     world(
-        "cases/crashed-left-out-of-the-commit-list",
+        "protocol/crashed-left-out-of-the-commit-list",
         &[NoLater],
-        Rules {
-            reach_of_crashing: |sending, crash, to| {
-                commits_reach(sending, crash, to, |sent| up_from(sending, to) <= sent)
-            },
-            ..RIGHT
-        },
+        Rules { commit_list: |sending, to| sending.n - crashed_above(sending, to), ..RIGHT },
     ),
     world(
         "protocol/idle-lines-counted-in-f",
-        &[CountsCrashed, CrashesAsSaid],
-        Rules { counts_as_crash: |_, _| true, ..RIGHT },
+        &[CountsCrashed, RefusesImpostors],
+        Rules { counts_as_crash: |_| true, ..RIGHT },
     ),
     world(
-        "cases/hears-in-the-round-of-its-crash",
+        "protocol/hears-in-the-round-of-its-crash",
         &[CrashesAsSaid, CountsCrashed],
         Rules {
             crashes: |step| match step.heard {
@@ -143,7 +138,7 @@ const MISTAKES: &[World] = &[
         },
     ),
     world(
-        "transitions/hears-in-the-round-of-its-crash",
+        "one that crashes in a round goes through it",
         &[Agreement, CrashesAsSaid, CountsCrashed, LastRoundSettles],
         Rules { crashes: right::receives, ..RIGHT },
     ),
@@ -164,16 +159,15 @@ fn commits_reach(
     }
 }
 
-/// How many processes from `first` to n have not crashed.
-fn up_from(sending: &Sending, first: u8) -> u8 {
-    let is_up = |process: &u8| sending.crashed >> (process - 1) & 1 == 0;
-    (first..=sending.n).filter(is_up).count() as u8
+/// How many processes above `process` have crashed.
+fn crashed_above(sending: &Sending, process: u8) -> u8 {
+    (sending.crashed >> process).count_ones() as u8
 }
 
 /// Document 01's impostors, and other coordinators.
 const IMPOSTORS: &[World] = &[
     world(
-        "cases/all-decided-after-round-one",
+        "round 1 is run and the rest marked decided",
         &[Agreement, LastRoundSettles],
         Rules {
             receives: |step| match right::receives(step) {
@@ -184,22 +178,22 @@ const IMPOSTORS: &[World] = &[
         },
     ),
     world(
-        "rounds/only-round-1-is-run",
+        "round 1 alone is run",
         &[Termination, CrashesAsSaid, CountsCrashed, LastRoundSettles],
         Rules { last_round: |_| 1, ..RIGHT },
     ),
     world(
-        "rounds/over-before-round-1",
+        "the run is over before round 1",
         &[Agreement, LastRoundSettles],
         Rules { initial: |proposal| State::Decided(0, proposal), ..RIGHT },
     ),
     world(
-        "rounds/one-value-for-all",
+        "one value for all tickets",
         &[Validity],
         Rules { initial: |_| State::Undecided(7), ..RIGHT },
     ),
     world(
-        "transitions/silent-processes-marked-decided",
+        "one that hears nothing decides the coordinator's value",
         &[Agreement, Validity, NoLater, LastRoundSettles],
         Rules {
             hears: |reach, coordinator| match right::hears(reach, coordinator) {
@@ -210,7 +204,7 @@ const IMPOSTORS: &[World] = &[
         },
     ),
     world(
-        "transitions/coordinator-decides-a-fixed-value",
+        "the coordinator decides 0",
         &[Validity, Agreement, NoLater, LastRoundSettles],
         Rules {
             receives: |step| {
@@ -224,7 +218,7 @@ const IMPOSTORS: &[World] = &[
         },
     ),
     world(
-        "transitions/crashed-coordinator-still-sends",
+        "a crashed coordinator sends 0",
         &[Validity, Agreement, NoLater, LastRoundSettles],
         Rules {
             hears: |reach, coordinator| match coordinator {
@@ -235,13 +229,20 @@ const IMPOSTORS: &[World] = &[
         },
     ),
     world(
-        "rounds/last-process-read-as-coordinator",
-        &[Agreement, Termination, EarlyDecision, CountsOfTheRun, LastRoundSettles],
+        "process n is taken for the coordinator",
+        &[Agreement, Termination, EarlyDecision, CountsSpeakers, LastRoundSettles],
         Rules { coordinator: |_, n| n, ..RIGHT },
     ),
     world(
-        "rounds/process-1-coordinates-every-round",
-        &[Termination, CrashesAsSaid, CountsCrashed, CountsOfTheRun, LastRoundSettles],
+        "process 1 coordinates every round",
+        &[
+            Termination,
+            CrashesAsSaid,
+            CountsCrashed,
+            CountsRounds,
+            CountsSpeakers,
+            LastRoundSettles,
+        ],
         Rules { round_run: |_| 1, ..RIGHT },
     ),
 ];
@@ -256,14 +257,11 @@ const COUNTS: &[World] = &[
     world(
         "protocol/crashed-process-not-counted-in-f",
         &[EarlyDecision, Termination, CrashesAsSaid, CountsCrashed, SpeakersWithinBound],
-        Rules {
-            counts_as_crash: |round, end| !has_crashed(end) && right::counts_as_crash(round, end),
-            ..RIGHT
-        },
+        Rules { is_idle: |round, end| has_crashed(end) || right::is_idle(round, end), ..RIGHT },
     ),
     world(
         "protocol/decided-processes-keep-the-run-going",
-        &[SpeakersWithinBound, MessagesWithinBound, CountsOfTheRun],
+        &[CountsRounds, CountsSpeakers, SpeakersWithinBound, MessagesWithinBound],
         Rules {
             is_undecided: |state| !has_crashed(state),
             speaks: |state| !has_crashed(state),
@@ -272,17 +270,22 @@ const COUNTS: &[World] = &[
     ),
     world(
         "protocol/silent-coordinators-count-as-speakers",
-        &[SpeakersWithinBound, MessagesWithinBound, CountsOfTheRun],
+        &[SpeakersWithinBound, MessagesWithinBound, CountsSpeakers],
         Rules { speaks: |_| true, ..RIGHT },
     ),
     world(
         "protocol/rounds-counted-after-the-end",
-        &[CountsOfTheRun],
-        Rules { rounds: |_, round, _| round, ..RIGHT },
+        &[CountsRounds],
+        Rules { round_counts: |_, _| true, ..RIGHT },
+    ),
+    world(
+        "protocol/silent-rounds-not-counted",
+        &[CountsRounds],
+        Rules { round_counts: |_, speaks| speaks, ..RIGHT },
     ),
     world(
         "protocol/data-counted-as-the-set-itself",
-        &[MessagesWithinBound, CountsOfTheRun],
+        &[MessagesWithinBound, CountsReached],
         Rules {
             data_sent: |n, round, crash| match crash {
                 Some(Crash::SendingData { reached }) => reached,
@@ -292,8 +295,30 @@ const COUNTS: &[World] = &[
         },
     ),
     world(
+        "protocol/unsent-data-counted",
+        &[CountsReached],
+        Rules {
+            data_sent: |n, round, crash| match crash {
+                Some(Crash::BeforeSending) => u64::from(n - round),
+                _ => right::data_sent(n, round, crash),
+            },
+            ..RIGHT
+        },
+    ),
+    world(
+        "protocol/data-counted-as-the-commits",
+        &[CountsReached],
+        Rules {
+            data_sent: |n, round, crash| match crash {
+                Some(Crash::SendingCommits { sent }) => u64::from(sent),
+                _ => right::data_sent(n, round, crash),
+            },
+            ..RIGHT
+        },
+    ),
+    world(
         "protocol/unsent-commits-counted",
-        &[MessagesWithinBound, CountsOfTheRun],
+        &[MessagesWithinBound, CountsReached],
         Rules {
             commits_sent: |n, round, crash| match crash {
                 Some(Crash::SendingCommits { .. }) => u64::from(n - round),
@@ -303,8 +328,8 @@ const COUNTS: &[World] = &[
         },
     ),
     world(
-        "transitions/data-counted-as-n-minus-1",
-        &[MessagesWithinBound, CountsOfTheRun],
+        "n - 1 data messages are counted for n - r",
+        &[MessagesWithinBound, CountsReached],
         Rules {
             data_sent: |n, round, crash| match crash {
                 None | Some(Crash::SendingCommits { .. }) => u64::from(n - 1),
@@ -314,8 +339,8 @@ const COUNTS: &[World] = &[
         },
     ),
     world(
-        "transitions/commits-counted-as-n-minus-1",
-        &[MessagesWithinBound, CountsOfTheRun],
+        "n - 1 commits are counted for n - r",
+        &[MessagesWithinBound, CountsReached],
         Rules {
             commits_sent: |n, round, crash| match crash {
                 None => u64::from(n - 1),
@@ -325,8 +350,8 @@ const COUNTS: &[World] = &[
         },
     ),
     world(
-        "transitions/ones-of-another-set",
-        &[MessagesWithinBound, CountsOfTheRun],
+        "64 data messages are counted of any set",
+        &[MessagesWithinBound, CountsReached],
         Rules {
             data_sent: |n, round, crash| match crash {
                 Some(Crash::SendingData { .. }) => 64,
@@ -336,25 +361,9 @@ const COUNTS: &[World] = &[
         },
     ),
     world(
-        "rounds/rounds-not-counted",
-        &[CountsOfTheRun, LastRoundSettles],
-        Rules { rounds: |_, _, _| 0, ..RIGHT },
-    ),
-    world(
-        "protocol/crashed-processes-hold-values",
-        &[LastRoundSettles],
-        Rules {
-            value_held: |state| match state {
-                State::Crashed(round) => Some(u32::from(round)),
-                _ => right::value_held(state),
-            },
-            ..RIGHT
-        },
-    ),
-    world(
-        "cases/only-the-last-round-settles",
-        &[WorkedCase(1)],
-        Rules { may_settle: |round, rounds| round == rounds, ..RIGHT },
+        "rounds are not counted",
+        &[CountsRounds, LastRoundSettles],
+        Rules { round_counts: |_, _| false, ..RIGHT },
     ),
 ];
 
@@ -362,13 +371,82 @@ fn has_crashed(state: State) -> bool {
     matches!(state, State::Crashed(_))
 }
 
+/// Other rounds that qualify for settling.
+const SETTLING: &[World] = &[
+    world(
+        "protocol/crashed-processes-hold-values",
+        &[LastRoundSettles],
+        Rules {
+            value_held: |state, _| match state {
+                State::Crashed(round) => Some(u32::from(round)),
+                _ => right::value_held(state),
+            },
+            ..RIGHT
+        },
+    ),
+    world(
+        "protocol/settled-as-the-round-begins",
+        &[LastRoundSettles],
+        Rules { settled_at_end_of: |round| round.saturating_sub(1), ..RIGHT },
+    ),
+    world(
+        "protocol/every-round-settles",
+        &[WorkedRun("case 5")],
+        Rules { one_value: |_| true, ..RIGHT },
+    ),
+    world(
+        "protocol/settled-by-the-decided-alone",
+        &[WorkedRun("case 5")],
+        Rules {
+            value_held: |state, _| match state {
+                State::Decided(_, value) => Some(value),
+                State::Undecided(_) | State::Crashed(_) => None,
+            },
+            ..RIGHT
+        },
+    ),
+    world(
+        "protocol/settled-by-who-never-crashes",
+        &[WorkedRun("one crashes later")],
+        Rules {
+            value_held: |state, crashes| right::value_held(state).filter(|_| !crashes),
+            ..RIGHT
+        },
+    ),
+    world(
+        "protocol/round-0-settles",
+        &[WorkedRun("case 2")],
+        Rules { may_settle: |round, rounds, _| round <= rounds, ..RIGHT },
+    ),
+    world(
+        "protocol/settles-after-the-end",
+        &[WorkedRun("case 1")],
+        Rules { may_settle: |round, _, last| 1 <= round && round <= last, ..RIGHT },
+    ),
+    world(
+        "formats/only-the-last-round-settles",
+        &[WorkedRun("case 1")],
+        Rules { may_settle: |round, rounds, _| round == rounds, ..RIGHT },
+    ),
+];
+
 /// Other claims of the right runs.
 const CLAIMED: &[World] = &[
-    world("demands/decided-by-round-f", &[EarlyDecision], Rules { latest: |f| f, ..RIGHT }),
+    world("none decides after round f", &[EarlyDecision], Rules { latest: |f| f, ..RIGHT }),
     world(
-        "demands/f-above-the-crashed",
+        "f is one more than the crashed",
         &[CountsCrashed],
         Rules { f_of_crashed: |crashed| crashed + 1, ..RIGHT },
+    ),
+    world(
+        "protocol/one-round-more-to-decide",
+        &[WorkedRun("case 1")],
+        Rules { latest: |f| f + 2, ..RIGHT },
+    ),
+    world(
+        "protocol/decides-after-the-latest",
+        &[RefusesImpostors],
+        Rules { decides_by: |round, latest| round <= latest + 1, ..RIGHT },
     ),
     world(
         "protocol/f-of-the-process-after",
@@ -386,7 +464,12 @@ const CLAIMED: &[World] = &[
         Rules { most_messages: |run| (RIGHT.most_messages)(run).saturating_sub(1), ..RIGHT },
     ),
     world(
-        "cases/bound-of-theorem-2",
+        "protocol/bound-too-high",
+        &[WorkedRun("case 1")],
+        Rules { most_messages: |run| (RIGHT.most_messages)(run) + 1, ..RIGHT },
+    ),
+    world(
+        "formats/bound-of-theorem-2",
         &[MessagesWithinBound],
         Rules {
             most_messages: |run| bound_of_theorem_2(u64::from(run.n), u64::from(run.f)),
@@ -436,7 +519,7 @@ const PAIRED: &[World] = &[
         Rules { no_later: |first, second| second < first, ..RIGHT },
     ),
     world(
-        "demands/first-no-later-than-the-second",
+        "the first no later than the second",
         &[NoLater],
         Rules {
             counts_paired: |first, second| (RIGHT.counts_paired)(second, first),
