@@ -6,8 +6,7 @@ ghost use lib.ListN.{length, drop};
 ghost use Rattle.general.specs.BigEndian.{bytesOf};
 ghost use Rattle.general.specs.Indexed.{mapFrom};
 ghost use Rattle.tables.specs.RunReading.{stateByEnd};
-ghost use Rattle.formats.specs.ResultLine.{endBytes, processLine, joined, resultLines, resultSize, refusalLine};
-ghost use Rattle.formats.specs.ResultLine.{processLineSize, refusalLineSize};
+ghost use Rattle.formats.specs.ResultLine.{endBytes, processLine, processLineSize, joined, resultLines, resultSize, refusalLine, refusalLineSize};
 ghost use Rattle.result.specs.RunOver.{statesOver, runOver};
 
 // The kinds of the lines: a process's, the last one, and a refusal's.

@@ -1,5 +1,5 @@
 -- `hex::put_line` meets its contract. Invariant: the digits of the bytes passed, followed by what stood there before. Assumes nothing.
-use mathlib.Core.Path.{_≡_, refl, sym, _∙_}
+use mathlib.Core.Path.{_≡_, refl, sym}
 use Prim.Native.Nat.{_-_, _≤_}
 use borrow.Author.Needs.{needs}
 use native.Mathlib.Omega.{arith}
@@ -42,7 +42,7 @@ loop-again c =
     let start = place .before .before .before .before .args in (
       search needs,
       search needs,
-      turn .put-byte .ensures ∙ rw (place .loop .inv .2) (part-more (start .bytes .now) (start .out .now) _ (omega arith) (omega arith)),
+      rw (turn .put-byte .ensures, place .loop .inv .2) (part-more (start .bytes .now) (start .out .now) _ (omega arith) (omega arith)),
     )
 
 mul-out : tie.Need-mul-out Inv-loop μ-loop
