@@ -76,6 +76,7 @@ fn last_bytes(rounds: u8, f: u8, speakers: u8, sent: u16, commits: u16) -> [u8; 
 }
 
 // The lines of the first n processes, each in the part of the output that follows the line before.
+// (That `ends` has so many places is in its type; a proof is not told so of an array that is lent, so the contract says it.)
 fn put_process_lines<'a>(
     out: &mut [u8],
     n: usize,
