@@ -50,3 +50,7 @@ resultSize n = processLineSize * n + lastLineSize
 -- A refusal: 1F, number, line (2 bytes).
 unfoldable pub refusalLine : ℕ → ℕ → List ℕ
 refusalLine number line = hexLine (0x1F ∷ number ∷ bytesOf 2 line)
+
+-- The length of a refusal's line, which has 4 bytes.
+abbrev pub refusalLineSize : ℕ
+refusalLineSize = lineSize 4

@@ -4,10 +4,9 @@ use mathlib.Core.Path.{_≡_, sym, ap, ap₂, _∙_}
 use Prim.Native.Nat.{ℕ, suc, _+_, _-_, _≤_, _<_}
 use native.Mathlib.Omega.{arith}
 use native.Mathlib.Nat.{zero-add}
-use native.Mathlib.Numerals.{add-one}
 use borrow.Rule.Slice.PartMut.{midOf, postOf, putMid}
 use lib.ListN.{length, set, take, drop, getD, length-append, drop-of-length-le}
-use lib.Seq.{drop-cons, set-at, sets, sets-eq, length-sets, append-snoc, take-at, drop-at, take-suc, take-all, length-take-le, drop-drop}
+use lib.Seq.{drop-cons, set-at, sets, sets-eq, length-sets, append-snoc, take-at, drop-at, take-all, length-take-le, drop-drop}
 
 -- One element more.
 pub set-seam : {A : Type 0} (written before : List A) (m : ℕ) (a : A) → length written ≡ m → m < length before
@@ -37,14 +36,6 @@ module _ {A : Type 0} (done line before : List A) (m w : ℕ) (at-m : length don
       ∙ ap₂ (λ (l r : List A). done ++ (line ++ l ++ r)) (drop-drop w m before) past
       ∙ ap (λ (l : List A). done ++ l) (append-nil (line ++ drop (m + w) before))
       ∙ sym (append-assoc done line (drop (m + w) before))
-
--- A list that is put number by number to the front of another: one more.
-pub put-more : (numbers before : List ℕ) (k : ℕ) → k < length numbers → k < length before
-    → set (take k numbers ++ drop k before) k (getD numbers k 0) ≡ take (k + 1) numbers ++ drop (k + 1) before
-put-more numbers before k h fits =
-    set-seam (take k numbers) before k (getD numbers k 0) (length-take-le k numbers (omega arith)) fits
-    ∙ ap (λ (l : List ℕ). l ++ drop (suc k) before) (sym (take-suc numbers k 0 h))
-    ∙ ap (λ (m : ℕ). take m numbers ++ drop m before) (sym (add-one k))
 
 -- Stores from the front leave the stored elements, and what followed them.
 pub stored : (vs l : List ℕ) → length vs ≤ length l → sets l 0 vs ≡ vs ++ drop (length vs) l

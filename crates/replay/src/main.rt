@@ -49,6 +49,13 @@ fn write_front(buffer: &[u8], size: usize)
     io::write_all(1, &buffer[..size]);
 }
 
+// Writes the line of a refusal.
+fn write_refusal(number: u8, line: u16) {
+    let mut text = [0u8; result::REFUSAL_LINE_SIZE];
+    result::put_refusal(&mut text, number, line);
+    io::write_all(1, &text);
+}
+
 // Runs the first `size` bytes of a text as a ticket, with the first `room` bytes of a buffer as its output.
 fn run_in(text: &[u8], size: usize, out: &mut [u8], room: usize) -> RunAnswer
     requires { ⌜ size ≤ length (now text) ⌝ }
@@ -72,7 +79,7 @@ fn answer(text: &[u8], size: usize, room: usize)
             write_changed(&out, written);
         }
         RunAnswer::Refused(number, line) => {
-            io::write_all(1, &result::refusal_text(number, line));
+            write_refusal(number, line);
             write_changed(&out, 0);
         }
     }

@@ -1,2 +1,2 @@
-pub mod HexText
 pub mod ResultLine
+pub mod RunOver

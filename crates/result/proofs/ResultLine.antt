@@ -1,7 +1,7 @@
--- Laws of result lines: one for each branch of `process_bytes`, the length of a line, and what one line more does to an output that is being written. Assumes nothing.
+-- Laws of result lines: one for each branch of `process_bytes`, and what one line more does to an output that is being written. Assumes nothing.
 use mathlib.Core.List.{List, [], _∷_, _++_, append-nil, append-assoc}
 use mathlib.Core.Path.{_≡_, refl, sym, ap, ap₂, _∙_}
-use Prim.Native.Nat.{ℕ, zero, suc, _+_, _-_, _*_, _/_, _%_, _≤_, _<_}
+use Prim.Native.Nat.{ℕ, zero, suc, _+_, _-_, _*_, _≤_, _<_}
 use native.Mathlib.Omega.{arith}
 use native.Mathlib.Numerals.{add-one}
 use borrow.Author.Tests.{ne-eqb}
@@ -11,43 +11,31 @@ use lib.Seq.{take-suc, take-all}
 use Rattle.general.specs.BigEndian.{bytesOf}
 use Rattle.general.specs.Indexed.{mapFrom}
 use Rattle.general.proofs.Indexed.{mapFrom-snoc}
-use Rattle.general.proofs.Overwrite.{put-part}
 use Rattle.protocol.specs.Round.{State, crashed, stateOf}
 use Rattle.protocol.specs.Run.{Run}
 use Rattle.tables.specs.RunReading.{stateByEnd}
-use Rattle.formats.specs.HexText.{digitOf, hexDigits, hexLine}
+use Rattle.formats.specs.HexText.{hexLine, lineSize}
+use Rattle.hex.proofs.HexText.{length-hexLine, line-more}
 use Rattle.formats.proofs.ResultLength.{length-line, length-last, length-process-lines}
-use Rattle.formats.specs.ResultLine.{endBytes, processLine, lastLine, processLineSize, lastLineSize, joined, resultLines, resultSize, refusalLine}
+use Rattle.formats.specs.ResultLine.{endBytes, processLine, lastLine, processLineSize, lastLineSize, joined, resultLines, resultSize}
 
 -- What `process_bytes` returns, by the process's end.
 module _ (line : List ℕ) (p end round v : ℕ) where
-  pub line-undecided : line ≡ 17 ∷ p ∷ 0 ∷ 0 ∷ bytesOf 4 v → end ≡ 0 → line ≡ 17 ∷ p ∷ endBytes (stateByEnd end round v)
+  pub line-undecided : line ≡ 0x11 ∷ p ∷ 0 ∷ 0 ∷ bytesOf 4 v → end ≡ 0 → line ≡ 0x11 ∷ p ∷ endBytes (stateByEnd end round v)
   unfolding endBytes stateByEnd
   line-undecided e h = rw h e
 
-  pub line-decided : line ≡ 17 ∷ p ∷ 1 ∷ round ∷ bytesOf 4 v → end ≡ 1 → line ≡ 17 ∷ p ∷ endBytes (stateByEnd end round v)
+  pub line-decided : line ≡ 0x11 ∷ p ∷ 1 ∷ round ∷ bytesOf 4 v → end ≡ 1 → line ≡ 0x11 ∷ p ∷ endBytes (stateByEnd end round v)
   unfolding endBytes stateByEnd
   line-decided e h = rw h e
 
-  pub line-crashed : line ≡ 17 ∷ p ∷ 2 ∷ round ∷ bytesOf 4 0 → (end ≡ 0 → ⊥) → (end ≡ 1 → ⊥) → line ≡ 17 ∷ p ∷ endBytes (stateByEnd end round v)
+  pub line-crashed : line ≡ 0x11 ∷ p ∷ 2 ∷ round ∷ bytesOf 4 0 → (end ≡ 0 → ⊥) → (end ≡ 1 → ⊥) → line ≡ 0x11 ∷ p ∷ endBytes (stateByEnd end round v)
   unfolding endBytes stateByEnd
   line-crashed e h g = simp (ne-eqb end 0 h, ne-eqb end 1 g) e
 
-pub line-of : (line : List ℕ) (p : ℕ) (s s′ : State) → line ≡ 17 ∷ p ∷ endBytes s → s′ ≡ s → hexLine line ≡ processLine p s′
+pub line-of : (line : List ℕ) (p : ℕ) (s s′ : State) → line ≡ 0x11 ∷ p ∷ endBytes s → s′ ≡ s → hexLine line ≡ processLine p s′
 unfolding processLine
 line-of line p s s′ e g = rw (e, g)
-
--- A refusal, digit by digit.
-pub refusal-digits : (number line a b c d e f g h : ℕ) → a ≡ digitOf 1 → b ≡ digitOf 15 → c ≡ digitOf (number / 16) → d ≡ digitOf (number % 16)
-    → e ≡ digitOf (line / 4096 % 16) → f ≡ digitOf (line / 256 % 16) → g ≡ digitOf (line / 16 % 16) → h ≡ digitOf (line % 16)
-    → a ∷ b ∷ c ∷ d ∷ e ∷ f ∷ g ∷ h ∷ 10 ∷ [] ≡ refusalLine number line
-unfolding refusalLine hexLine hexDigits bytesOf
-refusal-digits number line a b c d e f g h ea eb ec ed ee ef eg eh =
-    let fifth : line / 256 % 256 / 16 ≡ line / 4096 % 16 = omega arith in
-    let sixth : line / 256 % 256 % 16 ≡ line / 256 % 16 = omega arith in
-    let seventh : line % 256 / 16 ≡ line / 16 % 16 = omega arith in
-    let eighth : line % 256 % 16 ≡ line % 16 = omega arith in
-    rw (ea, eb, ec, ed, ee, ef, eg, eh, fifth, sixth, seventh, eighth)
 
 joined-snoc : (lines : List (List ℕ)) (line : List ℕ) → joined (lines ++ (line ∷ [])) ≡ joined lines ++ line
 unfolding joined
@@ -100,35 +88,38 @@ module _ (states : List State) (before : List ℕ) where
   pub length-with : (i : ℕ) → i ≤ length states → processLineSize * i ≤ length before → length (withLines states before i) ≡ length before
   unfolding withLines
   length-with i h fits =
-      length-append (linesTo states i) (drop (processLineSize * i) before) ∙ ap₂ (λ (a b : ℕ). a + b) (length-lines states i h) (length-drop (processLineSize * i) before) ∙ omega arith
+      length-append (linesTo states i) (drop (processLineSize * i) before)
+      ∙ ap₂ (λ (a b : ℕ). a + b) (length-lines states i h) (length-drop (processLineSize * i) before)
+      ∙ omega arith
 
   -- The part lent for line i + 1 comes back with it.
-  pub with-more : (i : ℕ) (out line back : List ℕ) → i < length states → processLineSize * (i + 1) ≤ length before → out ≡ withLines states before i
-      → line ≡ processLine (i + 1) (stateOf states (i + 1))
-      → back ≡ line ++ drop processLineSize (midOf (processLineSize * i) (length out - processLineSize * i) out)
+  pub with-more : (i : ℕ) (out bytes back : List ℕ) → i < length states → processLineSize * (i + 1) ≤ length before → out ≡ withLines states before i
+      → hexLine bytes ≡ processLine (i + 1) (stateOf states (i + 1))
+      → back ≡ hexLine bytes ++ drop (lineSize (length bytes)) (midOf (processLineSize * i) (length out - processLineSize * i) out)
       → putMid (processLineSize * i) (length out - processLineSize * i) out back ≡ withLines states before (i + 1)
   unfolding withLines stateOf
-  with-more i out line back h fits o l b =
-      let next : processLineSize * i + processLineSize ≡ processLineSize * (i + 1) = omega arith in
+  with-more i out bytes back h fits o l b =
       let place : i + 1 - 1 ≡ i = omega arith in
       let row : processLine (i + 1) (getD states (i + 1 - 1) (crashed 0)) ≡ processLine (suc i) (getD states i (crashed 0)) =
       ap₂ (λ (p k : ℕ). processLine p (getD states k (crashed 0))) (add-one i) place in
-      let wide : length line ≡ processLineSize = ap length l ∙ length-line (i + 1) _ in
-      let longer : linesTo states i ++ line ≡ linesTo states (i + 1) =
+      let wide : lineSize (length bytes) ≡ processLineSize = sym (length-hexLine bytes) ∙ ap length l ∙ length-line (i + 1) _ in
+      let next : processLineSize * i + lineSize (length bytes) ≡ processLineSize * (i + 1) = omega arith in
+      let longer : linesTo states i ++ hexLine bytes ≡ linesTo states (i + 1) =
       ap (λ (m : List ℕ). linesTo states i ++ m) (l ∙ row) ∙ sym (lines-more states i (crashed 0) h) ∙ ap (linesTo states) (sym (add-one i)) in
-      rw (b, o)
-      (put-part (linesTo states i) line before (processLineSize * i) processLineSize (length-lines states i (omega arith)) wide (omega arith)
-      ∙ ap₂ (λ (m : List ℕ) (k : ℕ). m ++ drop k before) longer next)
+      line-more (linesTo states i) before bytes out back (processLineSize * i) (length-lines states i (omega arith)) (omega arith) o b
+      ∙ ap₂ (λ (m : List ℕ) (k : ℕ). m ++ drop k before) longer next
 
 -- The last line, in the part that follows the others, makes the result whole.
 module _ (run : Run) (f n : ℕ) (all : length (run .states) ≡ n) where
-  pub result-written : (before out line back : List ℕ) → resultSize n ≤ length before
+  pub result-written : (before out bytes back : List ℕ) → resultSize n ≤ length before
       → out ≡ joined (mapFrom processLine 1 (run .states)) ++ drop (processLineSize * n) before
-      → line ≡ 18 ∷ run .rounds ∷ f ∷ run .speakers ∷ bytesOf 2 (run .dataSent) ++ bytesOf 2 (run .commitsSent)
-      → back ≡ hexLine line ++ drop lastLineSize (midOf (processLineSize * n) (length out - processLineSize * n) out)
+      → bytes ≡ 0x12 ∷ run .rounds ∷ f ∷ run .speakers ∷ bytesOf 2 (run .dataSent) ++ bytesOf 2 (run .commitsSent)
+      → back ≡ hexLine bytes ++ drop (lineSize (length bytes)) (midOf (processLineSize * n) (length out - processLineSize * n) out)
       → putMid (processLineSize * n) (length out - processLineSize * n) out back ≡ resultLines run f ++ drop (resultSize n) before
   unfolding resultLines lastLine resultSize
-  result-written before out line back fits o l b =
-      let stations : length (joined (mapFrom processLine 1 (run .states))) ≡ processLineSize * n = length-process-lines (run .states) 1 ∙ ap (λ (k : ℕ). processLineSize * k) all in
-      rw (b, o, l)
-      (put-part (joined (mapFrom processLine 1 (run .states))) _ before (processLineSize * n) lastLineSize stations (length-last run f) (omega arith))
+  result-written before out bytes back fits o l b =
+      let stations : length (joined (mapFrom processLine 1 (run .states))) ≡ processLineSize * n =
+      length-process-lines (run .states) 1 ∙ ap (λ (k : ℕ). processLineSize * k) all in
+      let wide : lineSize (length bytes) ≡ lastLineSize = sym (length-hexLine bytes) ∙ ap (λ (m : List ℕ). length (hexLine m)) l ∙ length-last run f in
+      line-more (joined (mapFrom processLine 1 (run .states))) before bytes out back (processLineSize * n) stations (omega arith) o b
+      ∙ rw (wide, l)

@@ -27,6 +27,8 @@ use Rattle.formats.specs.ResultLine.{resultText, resultLines, resultSize}
 use Rattle.formats.proofs.ResultLength.{length-text}
 use Rattle.formats.specs.Running.{resultIn, running, bufferAfter}
 use Rattle.formats.specs.Settle.{Settles}
+use Rattle.result.specs.RunOver.{runOver}
+use Rattle.result.proofs.RunOver.{run-over}
 use Rattle.running.specs.Answer.{answerOf, Ran, settlingOf}
 use Rattle.running.specs.declared.RunAnswer.{RunAnswer}
 use Rattle.running.specs.declared.RunAnswer.the-variants.{Written, Refused}
@@ -72,14 +74,18 @@ module _ (text before : List ℕ) where
 
     -- The code's run and its f give the instance's result.
     result-is : (run : RunTable) (f : ℕ) → runFrom (table .n) run ≡ runOf (instanceOf table)
-        → f ≡ crashCount (instanceOf table .pattern) (statesIn (table .n) run) → resultLines (runFrom (table .n) run) f ≡ resultText (instanceOf table)
+        → f ≡ crashCount (instanceOf table .pattern) (statesIn (table .n) run)
+        → resultLines (runOver (table .n) (run .ends) (run .ended) (run .values) (run .rounds) (run .speakers) (run .sent) (run .commits)) f
+        ≡ resultText (instanceOf table)
     unfolding resultText crashesOf runFrom
     result-is run f same counted =
-        ap₂ resultLines same (counted ∙ ap (λ (r : Run). crashCount (instanceOf table .pattern) (r .states)) same)
+        ap₂ resultLines (run-over (table .n) run ∙ same) (counted ∙ ap (λ (r : Run). crashCount (instanceOf table .pattern) (r .states)) same)
 
     pub ran-written : (size : ℕ) → size ≡ resultSize (table .n) → (run : RunTable) (f : ℕ) (after : List ℕ) → runFrom (table .n) run ≡ runOf (instanceOf table)
         → f ≡ crashCount (instanceOf table .pattern) (statesIn (table .n) run) → size ≤ length before
-        → after ≡ resultLines (runFrom (table .n) run) f ++ drop (resultSize (table .n)) before → Ran text before after (Written size)
+        → after ≡ resultLines (runOver (table .n) (run .ends) (run .ended) (run .values) (run .rounds) (run .speakers) (run .sent) (run .commits)) f
+        ++ drop (resultSize (table .n)) before
+        → Ran text before after (Written size)
     unfolding answerOf bufferAfter instanceOf
     ran-written size sized run f after same counted fits stored =
         let ran = running-fits text (length before) (instanceOf table) read (omega arith) in

@@ -34,7 +34,18 @@ fn run_rest(text: &[u8], n: u8, t: u8, at: usize, out: &mut [u8]) -> RunAnswer
     }
     let run = rounds::run_all(read.table);
     let f = rounds::crash_count(read.table, run);
-    result::write_result(out, read.table.n, run, f);
+    result::write_result(
+        out,
+        read.table.n,
+        &run.ends,
+        &run.ended,
+        &run.values,
+        run.rounds,
+        f,
+        run.speakers,
+        run.sent,
+        run.commits,
+    );
     RunAnswer::Written(size)
 }
 

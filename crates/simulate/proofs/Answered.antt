@@ -1,11 +1,10 @@
--- What stands at the front of the buffer is what the program writes: putting a refusal's line there, and one law for each answer of running, over plain
--- variables. Assumes nothing.
+-- What stands at the front of the buffer is what the program writes: one law for each answer of running, over plain variables. Assumes nothing.
 use mathlib.Core.List.{List, _++_}
 use mathlib.Core.Path.{_≡_, refl, sym, ap, _∙_}
 use Prim.Native.Nat.{ℕ}
 use native.Mathlib.Omega.{arith}
 use lib.ListN.{length, take, drop}
-use lib.Seq.{take-all, take-at}
+use lib.Seq.{take-at}
 use Rattle.general.specs.BigEndian.{bytesOf}
 use Rattle.formats.specs.Reading.{Reading, accepted, refused}
 use Rattle.formats.specs.HexText.{hexDigits, hexLine}
@@ -19,10 +18,6 @@ use Rattle.running.specs.declared.RunAnswer.the-variants.{Written, Refused}
 length-refusal : (number line : ℕ) → length (refusalLine number line) ≡ 9
 unfolding refusalLine hexLine hexDigits bytesOf
 length-refusal number line = refl
-
--- All nine bytes of a refusal, put to the front.
-pub put-all : (bytes before : List ℕ) (number line : ℕ) → bytes ≡ refusalLine number line → take 9 bytes ++ drop 9 before ≡ refusalLine number line ++ drop 9 before
-put-all bytes before number line e = rw e (ap (λ (l : List ℕ). l ++ drop 9 before) (take-all 9 (refusalLine number line) (omega (arith, length-refusal number line))))
 
 module _ (text before after : List ℕ) (answer : RunAnswer) (room : length before ≡ resultSize 64) (ran : Ran text before after answer) where
   -- What the program writes, by what running answers in its buffer.

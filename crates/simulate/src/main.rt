@@ -2,10 +2,9 @@
 // A thin program over the proved library. What is to be written is proved; that the two system calls read and write it no contract
 // can say: the gate compares what the program writes. What goes wrong with them is told on standard error.
 ghost use mathlib.Core.Path.{_≡_};
-ghost use mathlib.Core.List.{_++_};
 ghost use Prim.Native.Nat.{_<_, _≤_};
-ghost use lib.ListN.{length, take, drop};
-ghost use Rattle.formats.specs.ResultLine.{resultSize, refusalLine};
+ghost use lib.ListN.{length, take};
+ghost use Rattle.formats.specs.ResultLine.{resultSize};
 ghost use Rattle.formats.specs.Running.{programWrites};
 ghost use Rattle.simulate.specs.Input.{Within};
 use running::RunAnswer;
@@ -48,19 +47,6 @@ fn write_front(buffer: &[u8], size: usize)
     }
 }
 
-// The line of a refusal to the front of a buffer.
-fn put_refusal(out: &mut [u8], number: u8, line: u16)
-    requires { ⌜ 9 ≤ length (now out) ⌝ }
-    ensures { λ r. ⌜ now (out .exit) ≡ refusalLine number line ++ drop 9 (now (out .entry)) ⌝ }
-{
-    let bytes = result::refusal_text(number, line);
-    let mut k = 0;
-    while k < 9 {
-        out[k] = bytes[k];
-        k += 1;
-    }
-}
-
 // Runs a ticket and leaves what is to be written for it at the front of a buffer; answers how many bytes that is.
 fn answer_text(text: &[u8], out: &mut [u8]) -> usize
     requires { ⌜ length (now out) ≡ resultSize 64 ⌝ }
@@ -71,8 +57,8 @@ fn answer_text(text: &[u8], out: &mut [u8]) -> usize
     match ran {
         RunAnswer::Written(size) => size,
         RunAnswer::Refused(number, line) => {
-            put_refusal(out, number, line);
-            9
+            result::put_refusal(out, number, line);
+            result::REFUSAL_LINE_SIZE
         }
     }
 }

@@ -31,14 +31,8 @@ write-changed-requires c κs = search needs
 enum-known-ran-2 : tie.Need-enum-known-ran-2
 enum-known-ran-2 c = search needs
 
-refusal-text-requires : tie.Need-refusal-text-requires
-refusal-text-requires c κs = search needs
-
-slice-aggregate-write-all : tie.Need-slice-aggregate-write-all
-slice-aggregate-write-all c = search needs
-
-write-all-requires : tie.Need-write-all-requires
-write-all-requires c κs = search needs
+write-refusal-requires : tie.Need-write-refusal-requires
+write-refusal-requires c κs = search needs
 
 slice-aggregate-write-changed-2 : tie.Need-slice-aggregate-write-changed-2
 slice-aggregate-write-changed-2 c = search needs
@@ -46,11 +40,11 @@ slice-aggregate-write-changed-2 c = search needs
 write-changed-requires-2 : tie.Need-write-changed-requires-2
 write-changed-requires-2 c κs = search needs
 
-slice-aggregate-write-all-2 : tie.Need-slice-aggregate-write-all-2
-slice-aggregate-write-all-2 c = search needs
+slice-aggregate-write-all : tie.Need-slice-aggregate-write-all
+slice-aggregate-write-all c = search needs
 
-write-all-requires-2 : tie.Need-write-all-requires-2
-write-all-requires-2 c κs = search needs
+write-all-requires : tie.Need-write-all-requires
+write-all-requires c κs = search needs
 
 returns : tie.Need-returns
 returns c = search needs
@@ -67,11 +61,9 @@ answer-spec =
     slice-aggregate-write-changed
     write-changed-requires
     enum-known-ran-2
-    refusal-text-requires
-    slice-aggregate-write-all
-    write-all-requires
+    write-refusal-requires
     slice-aggregate-write-changed-2
     write-changed-requires-2
-    slice-aggregate-write-all-2
-    write-all-requires-2
+    slice-aggregate-write-all
+    write-all-requires
     returns)

@@ -3,23 +3,22 @@ use Prim.Native.Nat.{_+_, _-_, _≤_}
 use Rattle.result.proofs.ResultLine.{line-of, withLines, length-with, with-none, with-all, with-more}
 use Rattle.result.proofs.put_process_lines.Statement.{statement}
 use Rattle.result.proofs.put_process_lines.Tie as tie
-use Rattle.tables.proofs.Places.{state-at-place, length-statesIn}
-use Rattle.tables.specs.RunReading.{statesIn}
+use Rattle.result.proofs.RunOver.{state-over-at, length-statesOver}
+use Rattle.result.specs.RunOver.{statesOver}
 use borrow.Author.Needs.{needs}
 use lib.ListN.{length}
 use mathlib.Core.Path.{_≡_, refl, sym, ap, _∙_}
 use native.Mathlib.Omega.{arith}
 
 abbrev Inv-loop : tie.InvT-loop
-Inv-loop out₀ n run i₀ out i = (i ≤ n) × (n ≤ length (run .ends)) × (length out ≡ length out₀) × (out ≡ withLines (statesIn n run) out₀ i)
+Inv-loop out₀ n ends ended values i₀ out i =
+    (i ≤ n) × (n ≤ length ends) × (length out ≡ length out₀) × (out ≡ withLines (statesOver n ends ended values) out₀ i)
 
 abbrev μ-loop : tie.MeasureT-loop
-μ-loop out₀ n run i₀ out i = n - i
+μ-loop out₀ n ends ended values i₀ out i = n - i
 
 loop-holds : tie.Need-loop-holds Inv-loop μ-loop
-loop-holds c =
-    let places : length (c .before .args .t3 .ends) ≡ 64 = search needs in
-    (omega arith, omega arith, refl, sym (with-none _ _))
+loop-holds c = (omega arith, omega arith, refl, sym (with-none _ _))
 
 add-process-bytes : tie.Need-add-process-bytes Inv-loop μ-loop
 add-process-bytes c = search needs
@@ -54,6 +53,9 @@ part-put-line-start c = search needs
 part-put-line-end : tie.Need-part-put-line-end Inv-loop μ-loop
 part-put-line-end c = search needs
 
+slice-aggregate-put-line : tie.Need-slice-aggregate-put-line Inv-loop μ-loop
+slice-aggregate-put-line c = search needs
+
 put-line-requires : tie.Need-put-line-requires Inv-loop μ-loop
 put-line-requires c κs = search needs
 
@@ -66,15 +68,17 @@ loop-less c = search needs
 loop-again : tie.Need-loop-again Inv-loop μ-loop
 loop-again c =
     let written = c .before .before in
-    let turn = written .before .before .before .before .before .before .before in
+    let turn = written .before .before .before .before .before .before .before .before in
     let start = turn .before .before .args in
-    let line = written .before .before in
+    let states = statesOver (start .n) (start .ends .now) (start .ended .now) (start .values .now) in
+    let line = written .before .before .before in
     let inv = turn .loop .inv in
-    let size : length (statesIn (start .n) (start .t3)) ≡ start .n = length-statesIn (start .n) (start .t3) (inv .1) in
-    let more = with-more (statesIn (start .n) (start .t3)) (start .out .now) (turn .loop .i) (turn .loop .out) _ _ (omega arith) (omega arith) (inv .3)
-    (line-of _ _ _ _ (line .process-bytes .ensures) (state-at-place (start .n) (start .t3) (turn .loop .i) (inv .1) (omega arith)))
+    let size : length states ≡ start .n = length-statesOver (start .n) (start .ends .now) (start .ended .now) (start .values .now) (inv .1) in
+    let state = state-over-at (start .n) (start .ends .now) (start .ended .now) (start .values .now) (inv .1) (turn .loop .i) (omega arith) in
+    let more = with-more states (start .out .now) (turn .loop .i) (turn .loop .out) _ _ (omega arith) (omega arith) (inv .3)
+    (line-of _ _ _ _ (line .process-bytes .ensures) state)
     (written .put-line .ensures) in
-    (omega arith, inv .1, ap length more ∙ length-with (statesIn (start .n) (start .t3)) (start .out .now) (turn .loop .i + 1) (omega arith) (omega arith), more)
+    (omega arith, inv .1, ap length more ∙ length-with states (start .out .now) (turn .loop .i + 1) (omega arith) (omega arith), more)
 
 same-length : tie.Need-same-length Inv-loop μ-loop
 same-length c = search needs
@@ -84,7 +88,7 @@ returns c =
     let start = c .before .before .before .args in
     let inv = c .before .loop .inv in
     let last : c .before .loop .i ≡ start .n = omega arith in
-    inv .3 ∙ rw last (with-all _ _ (start .n) (length-statesIn (start .n) (start .t3) (inv .1)))
+    inv .3 ∙ rw last (with-all _ _ (start .n) (length-statesOver (start .n) _ _ _ (inv .1)))
 
 pub put-process-lines-spec : {M : Type 1} → statement M
 put-process-lines-spec =
@@ -104,6 +108,7 @@ put-process-lines-spec =
     sub-put-line
     part-put-line-start
     part-put-line-end
+    slice-aggregate-put-line
     put-line-requires
     add-i
     loop-less

@@ -7,20 +7,20 @@ use borrow.Author.Needs.{needs}
 use mathlib.Core.List.{List, _∷_}
 use mathlib.Core.Path.{sym, ap}
 
-cast-t8 : tie.Need-cast-t8
-cast-t8 c = search needs
+cast-t7 : tie.Need-cast-t7
+cast-t7 c = search needs
 
-cast-t11 : tie.Need-cast-t11
-cast-t11 c = search needs
+cast-t10 : tie.Need-cast-t10
+cast-t10 c = search needs
 
-cast-t14 : tie.Need-cast-t14
-cast-t14 c = search needs
+cast-t13 : tie.Need-cast-t13
+cast-t13 c = search needs
 
-cast-t16 : tie.Need-cast-t16
-cast-t16 c = search needs
+cast-t15 : tie.Need-cast-t15
+cast-t15 c = search needs
 
 returns : tie.Need-returns
-returns c = sym (ap (λ (l : List ℕ). c .args .kind ∷ c .args .p ∷ c .args .end ∷ c .args .round ∷ l) (bytes-four (c .args .value)))
+returns c = sym (ap (λ (l : List ℕ). 0x11 ∷ c .args .p ∷ c .args .end ∷ c .args .round ∷ l) (bytes-four (c .args .value)))
 
 pub value-line-spec : {M : Type 1} → statement M
-value-line-spec = tie.close (tie.spec cast-t8 cast-t11 cast-t14 cast-t16 returns)
+value-line-spec = tie.close (tie.spec cast-t7 cast-t10 cast-t13 cast-t15 returns)

@@ -1,10 +1,10 @@
 -- `result::write_result` meets its contract: the lines of the processes, then the last line in the part that follows them. Assumes nothing.
 use Rattle.result.proofs.ResultLine.{result-written}
+use Rattle.result.proofs.RunOver.{length-statesOver}
 use Rattle.result.proofs.write_result.Statement.{statement}
 use Rattle.result.proofs.write_result.Tie as tie
+use Rattle.result.specs.RunOver.{runOver}
 use Rattle.formats.specs.ResultLine.{resultSize}
-use Rattle.tables.proofs.Places.{length-statesIn}
-use Rattle.tables.specs.RunReading.{runFrom}
 use borrow.Author.Needs.{needs}
 use lib.ListN.{length, length-take, length-drop}
 use mathlib.Core.Path.{_≡_}
@@ -31,28 +31,32 @@ part-put-line-start c = omega (arith, c .before .before .before .put-process-lin
 part-put-line-end : tie.Need-part-put-line-end
 part-put-line-end c = search needs
 
+slice-aggregate-put-line : tie.Need-slice-aggregate-put-line
+slice-aggregate-put-line c = search needs
+
 put-line-requires : tie.Need-put-line-requires
 unfolding resultSize
-put-line-requires c κs = simp (length-take, length-drop) (omega (arith, c .before .before .before .before .put-process-lines .kept .0))
+put-line-requires c κs =
+    let size : length (c .before .before .last-bytes .result) ≡ 8 = search needs in
+    simp (length-take, length-drop) (omega (arith, c .before .before .before .before .before .put-process-lines .kept .0))
 
 same-length : tie.Need-same-length
 same-length c = search needs
 
-places : (c : tie.Start) → length (c .args .run .ends) ≡ 64
-places c = search needs
-
 returns : tie.Need-returns
-unfolding runFrom
+unfolding runOver
 returns c =
     let written = c .before .before in
-    let lines = written .before .before .before .before .before in
-    let start = lines .before .before .before .args in
-    let sixty-four = places (lines .before .before .before) in
-    result-written (runFrom (start .n) (start .run)) (start .f) (start .n) (length-statesIn (start .n) (start .run) (omega arith))
-    (start .out .now) _ _ _
-    (lines .before .before .before .pre .1)
+    let last = written .before .before .before in
+    let lines = last .before .before .before in
+    let start = lines .before .before .before in
+    let args = start .args in
+    result-written (runOver (args .n) (args .ends .now) (args .ended .now) (args .values .now) (args .rounds) (args .speakers) (args .sent) (args .commits))
+    (args .f) (args .n) (length-statesOver (args .n) (args .ends .now) (args .ended .now) (args .values .now) (start .pre .1))
+    (args .out .now) _ _ _
+    (start .pre .2)
     (lines .put-process-lines .ensures)
-    (written .before .before .last-bytes .ensures)
+    (last .last-bytes .ensures)
     (written .put-line .ensures)
 
 pub write-result-spec : {M : Type 1} → statement M
@@ -65,6 +69,7 @@ write-result-spec =
     sub-put-line
     part-put-line-start
     part-put-line-end
+    slice-aggregate-put-line
     put-line-requires
     same-length
     returns)

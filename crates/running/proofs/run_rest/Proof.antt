@@ -2,6 +2,7 @@
 use mathlib.Core.Path.{_≡_}
 use borrow.Author.Needs.{needs}
 use native.Mathlib.Omega.{arith}
+use lib.ListN.{length}
 use Rattle.tables.specs.InstanceReading.{instanceOf}
 use Rattle.formats.specs.Reading.{accepted}
 use Rattle.formats.specs.Ticket.{readTicket}
@@ -45,9 +46,11 @@ crash-count-requires c κs = accepted-well-formed _ _ (ticket-read (c .before .b
 write-result-requires : tie.Need-write-result-requires
 unfolding instanceOf
 write-result-requires c κs =
-    let branch = c .before .before .before in
+    let ran = c .before .before .before .before .before .before in
+    let branch = ran .before in
     let few = accepted-well-formed _ _ (ticket-read (branch .before .before)) .at-most-64 in
-    (omega (arith, few), omega (arith, branch .before .result-size .ensures, branch .if1 .left))
+    let places : length (ran .run-all .result .ends) ≡ 64 = search needs in
+    (omega (arith, few), omega (arith, few), omega (arith, branch .before .result-size .ensures, branch .if1 .left))
 
 same-length : tie.Need-same-length
 same-length c = search needs
@@ -55,7 +58,7 @@ same-length c = search needs
 returns-3 : tie.Need-returns-3
 returns-3 c =
     let wrote = c .before .before in
-    let counted = wrote .before .before in
+    let counted = wrote .before .before .before .before .before .before in
     let branch = counted .before .before in
     let sized = branch .before in
     ran-written _ _ _ (ticket-read (sized .before)) _ (sized .result-size .ensures) _ _ _

@@ -1,18 +1,23 @@
--- Laws of lines of hexadecimal text: what one byte more does to a line that is being written. Assumes nothing.
+-- Laws of lines of hexadecimal text: a line's length, what one byte more does to a line that is being written, and one line more to an output. Assumes nothing.
 use mathlib.Core.List.{List, [], _∷_, _++_}
 use mathlib.Core.Path.{_≡_, refl, sym, ap, ap₂, _∙_}
-use Prim.Native.Nat.{ℕ, suc, _+_, _*_, _/_, _%_, _≤_, _<_}
+use Prim.Native.Nat.{ℕ, suc, _+_, _-_, _*_, _/_, _%_, _≤_, _<_}
 use native.Mathlib.Omega.{arith}
 use native.Mathlib.Numerals.{add-one}
+use borrow.Rule.Slice.PartMut.{midOf, putMid}
 use lib.ListN.{length, set, drop, getD, take, length-take, length-append}
 use lib.Seq.{take-suc, take-all}
-use Rattle.general.proofs.Overwrite.{set-seam}
-use Rattle.formats.specs.HexText.{digitOf, hexDigits, hexLine}
+use Rattle.general.proofs.Overwrite.{set-seam, put-part}
+use Rattle.formats.specs.HexText.{digitOf, hexDigits, hexLine, lineSize}
 
 length-hexDigits : (bs : List ℕ) → length (hexDigits bs) ≡ 2 * length bs
 unfolding hexDigits
 length-hexDigits [] = refl
 length-hexDigits (b ∷ bs) = let e = length-hexDigits bs in omega arith
+
+pub length-hexLine : (bs : List ℕ) → length (hexLine bs) ≡ lineSize (length bs)
+unfolding hexLine
+length-hexLine bs = length-append (hexDigits bs) (10 ∷ []) ∙ ap (λ (m : ℕ). m + 1) (length-hexDigits bs)
 
 hexDigits-snoc : (bs : List ℕ) (b : ℕ) → hexDigits (bs ++ (b ∷ [])) ≡ hexDigits bs ++ (digitOf (b / 16) ∷ []) ++ (digitOf (b % 16) ∷ [])
 unfolding hexDigits
@@ -51,8 +56,17 @@ module _ (bytes before : List ℕ) where
       ∙ ap₂ (λ (l : List ℕ) (m : ℕ). l ++ drop m before) (sym digits) next
 
   -- The closing 0A.
-  pub part-closed : (k : ℕ) → length bytes ≡ k → 2 * k < length before → set (partLine bytes before k) (2 * k) 10 ≡ hexLine bytes ++ drop (2 * k + 1) before
+  pub part-closed : 2 * length bytes < length before
+      → set (partLine bytes before (length bytes)) (2 * length bytes) 10 ≡ hexLine bytes ++ drop (lineSize (length bytes)) before
   unfolding partLine hexLine
-  part-closed k h g =
-      set-seam (hexDigits (take k bytes)) before (2 * k) 10 (length-part k (omega arith)) g
-      ∙ rw (take-all k bytes (omega arith), add-one)
+  part-closed g =
+      set-seam (hexDigits (take (length bytes) bytes)) before (2 * length bytes) 10 (length-part (length bytes) (omega arith)) g
+      ∙ rw (take-all (length bytes) bytes (omega arith), add-one)
+
+-- The part of an output from place m on, lent for the line of some bytes, comes back with it.
+pub line-more : (done before bytes out back : List ℕ) (m : ℕ) → length done ≡ m → m + lineSize (length bytes) ≤ length before
+    → out ≡ done ++ drop m before
+    → back ≡ hexLine bytes ++ drop (lineSize (length bytes)) (midOf m (length out - m) out)
+    → putMid m (length out - m) out back ≡ done ++ hexLine bytes ++ drop (m + lineSize (length bytes)) before
+line-more done before bytes out back m at-m fits o b =
+    rw (b, o) (put-part done (hexLine bytes) before m (lineSize (length bytes)) at-m (length-hexLine bytes) fits)
