@@ -1,5 +1,6 @@
 pub mod LineBytes
 pub mod CrashAllowed
+pub mod LineCases
 pub mod Passing
 pub mod Keeping
 pub mod WellFormed
