@@ -1,14 +1,23 @@
-# make                    prove every crate, build the programs, the C library and the example host
-# make run TICKET=FILE    run one ticket
-# make test               everything from nothing: proofs, must-fail edits, programs, and the evidence beyond the proofs
-# make vectors            compute the definitions on every vector of tests/vectors/
-# make unused             list definitions, lemmas and imports that nothing uses
-# make wrong-worlds       wrong rules of the protocol, and a counterexample to each claim that fails under them
-# make compare            the proved library against the second implementation: SEED=1 COUNT=1000000
-# make bench              speed of both
-# make fuzz               a coverage-guided fuzzer over the C interface: SECONDS=60
-# make pictures           the runs of examples/*.ticket as diagrams in docs/pictures/
-# make install PREFIX=..  the C header, library and pkg-config file, and simulate
+# make                        prove every crate, build the programs, the C library and the example host
+# make run TICKET=FILE        run one ticket
+# make explain TICKET=FILE    what it is answered, in words: the run round by round, or why it is refused
+# make picture TICKET=FILE    the same as a picture, in target/pictures/ or PICTURE=FILE
+# make test                   everything from nothing: proofs, must-fail edits, programs, and the evidence beyond the proofs
+# make vectors                compute the definitions on every vector of tests/vectors/
+# make vectors-part           the same on a part that has every kind of vector
+# make library-test           the compiled library on every vector of tests/vectors/
+# make host-test              simulate and the example host on every ticket of tests/vectors/, and on what cannot be read or written
+# make interface-test         the header's prototypes against the library's, and docs/FORMATS.md against the header
+# make show-test              explain and picture on every ticket of tests/vectors/
+# make second-test            the second implementation's own tests
+# make wrong-worlds           wrong rules of the protocol, and a counterexample to each claim that fails under them
+# make unused                 list definitions, lemmas and imports that nothing uses
+# make compare                the proved library against the second implementation: SEED=1 COUNT=1000000
+# make bench                  speed of both
+# make fuzz                   a coverage-guided fuzzer over the C interface: SECONDS=60. It needs clang with its fuzzer
+# make pictures               the runs of examples/*.ticket as pictures in docs/pictures/
+# make install PREFIX=..      the C header, library and pkg-config file; simulate, explain-run, draw-run and the man page
+# make help                   this list
 
 PREFIX ?= /usr/local
 SEED ?= 1
@@ -19,23 +28,42 @@ CC ?= cc
 CFLAGS_STRICT = -std=c11 -O2 -g -Wall -Wextra -Wpedantic -Wconversion -Werror -Iinclude
 LIBRARY = target/staticlib/libagreement.a
 SOURCES = crates.txt $(shell find crates -name must-fail -prune -o \( -name '*.rt' -o -name '*.antt' \) -print)
-SECOND = cd second && CARGO_TARGET_DIR=../target/second AGREEMENT_LIB_DIR=$(CURDIR)/target/staticlib cargo
+SANITIZERS = -fsanitize=address,undefined -fno-sanitize-recover=all
+SECOND = cd second && CARGO_TARGET_DIR=../target/second AGREEMENT_LIB_DIR="$(CURDIR)/target/staticlib" cargo
+VERSION = $(shell sed -n 's/^.define UC_VERSION "\(.*\)"/\1/p' include/agreement.h)
 
 COVERAGE_FLAGS = -Cpasses=sancov-module -Cllvm-args=-sanitizer-coverage-level=3 -Cllvm-args=-sanitizer-coverage-inline-8bit-counters \
   -Cllvm-args=-sanitizer-coverage-pc-table -Cllvm-args=-sanitizer-coverage-trace-compares
 
-.PHONY: all prove run test vectors unused second-test wrong-worlds host-test compare compare-short bench fuzz pictures install
+.PHONY: all help prove ticket-named simulate-built run explain picture test vectors vectors-part unused second-test wrong-worlds library-test host-test \
+  interface-test show-test compare compare-short bench fuzz pictures install
 
 all: prove $(LIBRARY) target/bin/host
+
+help:
+	@sed -n '/^#/!q; s/^# //p' Makefile
 
 prove:
 	rt check
 
-# What it writes of building goes to standard error, so that standard output has the result alone.
-run:
-	@test -n "$(TICKET)" || { echo 'usage: make run TICKET=FILE'; exit 2; }
+# What is written of building goes to standard error, so that standard output has the answer alone. File names go by the environment, so that
+# any name will do.
+ticket-named:
+	@test -n "$$TICKET" || { echo 'make: which ticket? TICKET=FILE' >&2; exit 2; }
+	@test -r "$$TICKET" || { echo "make: $$TICKET: no file that can be read" >&2; exit 2; }
+
+simulate-built: ticket-named
 	@$(MAKE) -s target/bin/simulate >&2
-	@target/bin/simulate < $(TICKET)
+
+run: simulate-built
+	@said=$$(target/bin/simulate < "$$TICKET") && test -n "$$said" && printf '%s\n' "$$said"
+
+explain: simulate-built
+	@tools/explain-run -- "$$TICKET"
+
+picture: simulate-built
+	@mkdir -p target/pictures
+	@picture=$${PICTURE:-target/pictures/$$(basename -- "$$TICKET" .ticket).svg} && tools/draw-run -- "$$TICKET" "$$picture" && echo "$$picture"
 
 target/bin/simulate: $(SOURCES)
 	rt check simulate
@@ -47,6 +75,9 @@ test:
 vectors:
 	tools/try-vectors
 
+vectors-part:
+	tools/try-vectors --part
+
 $(LIBRARY): $(SOURCES)
 	rt staticlib agreement
 	@touch $@
@@ -57,10 +88,23 @@ target/bin/host: examples/host.c include/agreement.h $(LIBRARY)
 
 target/bin/host-sanitized: examples/host.c include/agreement.h $(LIBRARY)
 	mkdir -p target/bin
-	$(CC) $(CFLAGS_STRICT) -fsanitize=address,undefined -fno-sanitize-recover=all examples/host.c $(LIBRARY) -o $@
+	$(CC) $(CFLAGS_STRICT) $(SANITIZERS) examples/host.c $(LIBRARY) -o $@
+
+target/bin/calls: tests/calls.c include/agreement.h $(LIBRARY)
+	mkdir -p target/bin
+	$(CC) $(CFLAGS_STRICT) $(SANITIZERS) tests/calls.c $(LIBRARY) -o $@
 
 host-test: target/bin/host target/bin/host-sanitized target/bin/simulate
 	tools/host-test target/bin/host-sanitized target/bin/simulate
+
+library-test: target/bin/calls
+	tools/library-test target/bin/calls
+
+interface-test: $(LIBRARY)
+	tools/interface-test $(LIBRARY)
+
+show-test: target/bin/simulate
+	tools/show-test target/bin/simulate
 
 unused:
 	tools/unused
@@ -82,7 +126,7 @@ bench: $(LIBRARY)
 
 # The second implementation is instrumented for the fuzzer's coverage, in a folder of its own.
 fuzz: $(LIBRARY)
-	command -v clang > /dev/null || { apt-get update && apt-get install -y clang libclang-rt-14-dev; }
+	@command -v clang > /dev/null || { echo 'make fuzz: it needs clang with its fuzzer, which is not here' >&2; exit 2; }
 	mkdir -p target/fuzz
 	second/fuzz/seed-corpus target/fuzz/corpus
 	cd second && RUSTFLAGS='$(COVERAGE_FLAGS)' CARGO_TARGET_DIR=../target/fuzz/second cargo build --quiet --release -p oracle
@@ -91,11 +135,21 @@ fuzz: $(LIBRARY)
 
 pictures: target/bin/simulate
 	mkdir -p docs/pictures
-	for t in examples/*.ticket; do target/bin/simulate < $$t > target/result && tools/draw-run $$t target/result docs/pictures/$$(basename $$t .ticket).svg; done
+	for t in examples/*.ticket; do tools/draw-run "$$t" "docs/pictures/$$(basename "$$t" .ticket).svg" || exit; done
 
-install: $(LIBRARY) target/bin/simulate
-	install -d $(DESTDIR)$(PREFIX)/bin $(DESTDIR)$(PREFIX)/include $(DESTDIR)$(PREFIX)/lib/pkgconfig
-	install -m 755 target/bin/simulate $(DESTDIR)$(PREFIX)/bin/
-	install -m 644 include/agreement.h $(DESTDIR)$(PREFIX)/include/
-	install -m 644 $(LIBRARY) $(DESTDIR)$(PREFIX)/lib/
-	sed 's|@PREFIX@|$(PREFIX)|' include/agreement.pc.in > $(DESTDIR)$(PREFIX)/lib/pkgconfig/agreement.pc
+target/man/simulate.1: docs/simulate.1.in include/agreement.h tools/man-page tools/runs.py
+	mkdir -p target/man
+	tools/man-page > $@
+
+# The tools find the header and the program by their place beside them (tools/runs.py).
+PLACE = $(DESTDIR)$(PREFIX)
+install: $(LIBRARY) target/bin/simulate target/man/simulate.1
+	install -d "$(PLACE)/bin" "$(PLACE)/include" "$(PLACE)/lib/pkgconfig" "$(PLACE)/share/man/man1" "$(PLACE)/share/agreement"
+	install -m 755 target/bin/simulate "$(PLACE)/bin/"
+	install -m 644 include/agreement.h "$(PLACE)/include/"
+	install -m 644 $(LIBRARY) "$(PLACE)/lib/"
+	sed 's|@PREFIX@|$(PREFIX)|; s|@VERSION@|$(VERSION)|' include/agreement.pc.in > "$(PLACE)/lib/pkgconfig/agreement.pc"
+	install -m 644 target/man/simulate.1 "$(PLACE)/share/man/man1/"
+	install -m 644 docs/FORMATS.md tools/runs.py "$(PLACE)/share/agreement/"
+	install -m 755 tools/explain-run tools/draw-run "$(PLACE)/share/agreement/"
+	ln -sf ../share/agreement/explain-run ../share/agreement/draw-run "$(PLACE)/bin/"

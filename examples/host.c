@@ -3,17 +3,15 @@
  *
  * It reads a ticket on standard input, asks the library whether it is accepted, and then does what desks on a switch
  * do: it starts a part for each process, and in each round has every part that is up speak, carries the frames that the
- * ticket lets through, and has every part close on what it heard. It prints the station lines: what `simulate` prints
- * without its last line. A ticket that is refused goes to standard error with its number and line, and exit status 1.
+ * ticket lets through, and has every part close on what it heard (agreement.h, THE HOST'S OBLIGATIONS: the switch is in
+ * memory, so that a frame has left and arrived at once). It prints the process lines: what `simulate` prints without its
+ * last line. A ticket that is refused goes to standard error with its number and line, and exit status 1.
  */
 #include <stdbool.h>
 #include <stdio.h>
 #include <string.h>
 
 #include "agreement.h"
-
-enum { MOST = 64, OPEN = 0, DECIDED = 1 };
-enum step { BEFORE_SENDING = 0, DURING_DATA = 1, DURING_COMMITS = 2 };
 
 /* A failure line; round 0 for a process that has none. */
 struct fault {
@@ -23,8 +21,8 @@ struct fault {
 
 struct ticket {
     unsigned n, t;
-    uint32_t value[MOST + 1];
-    struct fault fault[MOST + 1];
+    uint32_t value[UC_MOST_PROCESSES + 1];
+    struct fault fault[UC_MOST_PROCESSES + 1];
 };
 
 /* A process part: its nine bytes, and the round in which it crashed, 0 while it is up. */
@@ -48,17 +46,17 @@ static uint64_t number(const uint8_t *digits, unsigned bytes)
 static void read_ticket(const uint8_t *text, struct ticket *ticket)
 {
     memset(ticket, 0, sizeof *ticket);
-    for (const uint8_t *line = text; number(line, 1) != 4;) {
+    for (const uint8_t *line = text; number(line, 1) != UC_KIND_END;) {
         unsigned p = (unsigned)number(line + 2, 1);
         switch (number(line, 1)) {
-        case 1:
+        case UC_KIND_HEADER:
             ticket->n = p;
             ticket->t = (unsigned)number(line + 4, 1);
             break;
-        case 2:
+        case UC_KIND_PROPOSAL:
             ticket->value[p] = (uint32_t)number(line + 4, 4);
             break;
-        case 3:
+        case UC_KIND_FAILURE:
             ticket->fault[p] = (struct fault){
                 .round = (unsigned)number(line + 4, 1),
                 .step = (unsigned)number(line + 6, 1),
@@ -79,39 +77,53 @@ static size_t let_through(const struct ticket *ticket, unsigned q, unsigned r, u
     if (p <= q)
         return 0;
     if (fault->round != r)
-        return 8;
+        return UC_SPEECH_BYTES;
     switch (fault->step) {
-    case BEFORE_SENDING:
+    case UC_STEP_BEFORE_SENDING:
         return 0;
-    case DURING_DATA:
-        return (fault->reached >> (p - 1) & 1) ? 6 : 0;
+    case UC_STEP_DURING_DATA:
+        return (fault->reached >> (p - 1) & 1) ? UC_DATA_BYTES : 0;
     default: /* commits go to n, n - 1 and so on downward */
-        return ticket->n - p < fault->count ? 8 : 6;
+        return ticket->n - p < fault->count ? UC_SPEECH_BYTES : UC_DATA_BYTES;
     }
+}
+
+/* Whether a part is called in a round: it is up, and has not decided. */
+static bool takes_part(const struct part *part)
+{
+    return !part->crashed && part->state[UC_STATE_MARK] == UC_MARK_OPEN;
+}
+
+/* Says which call was refused, and why. */
+static bool refused(const char *call, unsigned process, unsigned refusal)
+{
+    if (refusal)
+        fprintf(stderr, "host: %s of process %u refused with %u: %s\n", call, process, refusal, uc_refusal_text(refusal));
+    return refusal != 0;
 }
 
 /* One round: all parts that are up speak; then those that do not crash in it close. False if a call was refused. */
 static bool run_round(const struct ticket *ticket, struct part *part, unsigned r)
 {
-    uint8_t said[MOST + 1][UC_FRAME_BYTES];
-    size_t yielded[MOST + 1] = {0};
+    uint8_t said[UC_MOST_PROCESSES + 1][UC_SPEECH_BYTES];
+    size_t yielded[UC_MOST_PROCESSES + 1] = {0};
 
     for (unsigned q = 1; q <= ticket->n; q++) {
-        if (part[q].crashed || part[q].state[4] != OPEN)
+        if (!takes_part(&part[q]))
             continue;
-        uint64_t answer = uc_speak(part[q].state, UC_STATE_BYTES, said[q], UC_FRAME_BYTES);
-        if (answer > UC_FRAME_BYTES)
+        uint64_t answer = uc_speak(part[q].state, UC_STATE_BYTES, said[q], UC_SPEECH_BYTES);
+        if (refused("uc_speak", q, uc_speak_refusal(answer)))
             return false;
         yielded[q] = (size_t)answer;
     }
     for (unsigned p = 1; p <= ticket->n; p++) {
-        if (part[p].crashed || part[p].state[4] != OPEN)
+        if (!takes_part(&part[p]))
             continue;
         if (ticket->fault[p].round == r) {
             part[p].crashed = r;
             continue;
         }
-        uint8_t heard[MOST * UC_FRAME_BYTES + 1];
+        uint8_t heard[UC_MOST_PROCESSES * UC_SPEECH_BYTES + 1];
         size_t length = 0;
         for (unsigned q = 1; q <= ticket->n; q++) {
             size_t reach = let_through(ticket, q, r, p);
@@ -119,20 +131,26 @@ static bool run_round(const struct ticket *ticket, struct part *part, unsigned r
             memcpy(heard + length, said[q], size);
             length += size;
         }
-        if (uc_close(part[p].state, UC_STATE_BYTES, heard, length) != 0)
+        if (refused("uc_close", p, uc_close_refusal(uc_close(part[p].state, UC_STATE_BYTES, heard, length))))
             return false;
     }
     return true;
 }
 
-static void print_station_lines(const struct ticket *ticket, const struct part *part)
+static void print_process_line(unsigned p, unsigned end, unsigned round, uint32_t value)
+{
+    printf("%02X%02X%02X%02X%08lX\n", UC_KIND_PROCESS, p, end, round, (unsigned long)value);
+}
+
+/* A part that has not crashed has decided by now, and its mark is then the end of its line. */
+static void print_process_lines(const struct ticket *ticket, const struct part *part)
 {
     for (unsigned p = 1; p <= ticket->n; p++) {
-        const uint8_t *s = part[p].state;
+        const uint8_t *state = part[p].state;
         if (part[p].crashed)
-            printf("11%02X02%02X00000000\n", p, part[p].crashed);
+            print_process_line(p, UC_END_CRASHED, part[p].crashed, 0);
         else
-            printf("11%02X%02X%02X%02X%02X%02X%02X\n", p, s[4], s[3], s[5], s[6], s[7], s[8]);
+            print_process_line(p, state[UC_STATE_MARK], state[UC_STATE_ROUND], uc_state_value(state));
     }
 }
 
@@ -140,7 +158,7 @@ int main(void)
 {
     static uint8_t text[UC_TICKET_BYTES + 1], result[UC_RESULT_BYTES];
     static struct ticket ticket;
-    static struct part part[MOST + 1];
+    static struct part part[UC_MOST_PROCESSES + 1];
 
     size_t length = fread(text, 1, sizeof text, stdin);
     if (ferror(stdin)) {
@@ -148,20 +166,21 @@ int main(void)
         return 2;
     }
     uint64_t answer = uc_run(text, length, result, sizeof result);
-    if (UC_REFUSED(answer)) {
-        fprintf(stderr, "host: refusal %u at line %u\n", UC_NUMBER(answer), UC_LINE(answer));
+    unsigned refusal = uc_run_refusal(answer);
+    if (refusal) {
+        fprintf(stderr, "host: refusal %u at line %u: %s\n", refusal, uc_run_line(answer), uc_refusal_text(refusal));
         return 1;
     }
     read_ticket(text, &ticket);
     bool fine = true;
-    for (unsigned p = 1; p <= ticket.n; p++)
-        fine = fine && uc_start(p, ticket.n, ticket.t, ticket.value[p], part[p].state, UC_STATE_BYTES) == 0;
-    for (unsigned r = 1; r <= ticket.t + 1; r++)
-        fine = fine && run_round(&ticket, part, r);
-    if (!fine) {
-        fputs("host: a call was refused\n", stderr);
-        return 3;
+    for (unsigned p = 1; fine && p <= ticket.n; p++) {
+        uint64_t started = uc_start(p, ticket.n, ticket.t, ticket.value[p], part[p].state, UC_STATE_BYTES);
+        fine = !refused("uc_start", p, uc_start_refusal(started));
     }
-    print_station_lines(&ticket, part);
+    for (unsigned r = 1; fine && r <= ticket.t + 1; r++)
+        fine = run_round(&ticket, part, r);
+    if (!fine)
+        return 3;
+    print_process_lines(&ticket, part);
     return 0;
 }

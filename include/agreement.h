@@ -3,6 +3,9 @@
  *
  * The coordinator-based protocol of document 001, as condensed in document 01, in five calls. Running and settling
  * simulate a ticket; start, speak and close are the process part, which a host calls for one process of its own.
+ * (Document 01 says desk or station for process, and dark for crashed.) What each call takes and answers stands at its
+ * prototype; the formats, the host's obligations and the refusals stand before them.
+ * FORMATS.md (in docs/; installed in share/agreement/) has the formats field by field, with one ticket annotated.
  *
  * LIFETIMES AND THREADS
  *   The library keeps nothing between calls, allocates nothing and reads no clock. It touches only the bytes that a
@@ -15,19 +18,96 @@
  *   answer, and a call that is refused changes no byte. That is proved, for each call, of the code that this library is
  *   compiled from.
  *
- * REFUSALS
- *   1   ticket of more than 4,096 bytes
- *   2   not a line: an even, non-zero count of digits 0-9, A-F, closed by byte 0A
- *   3   a kind not allowed here, a wrong length for its kind, or the text over before its 04
- *   4   n or t outside the limits: 1 <= n <= 64, t < n
- *   5   not the next station
- *   6   more than t failure lines
- *   7   station outside 1 to n or not rising, round outside 1 to t + 1, or a step above 02
- *   8   step 01 or 02 with round != station, or a set or count against its step
- *   9   output too short
- *   10  n, t or process outside the limits, not nine bytes of state, or not a valid state
- *   11  the process is not open: it has decided, or its rounds are over
- *   12  heard bytes that are not nothing, data, or data then commit of this round; or any byte in its own round
+ * A TICKET is text of at most 4,096 bytes. A line is an even, non-zero count of digits 0-9, A-F (capitals), closed by
+ * byte 0A; two digits make a byte, numbers have their most significant byte first, and the first byte is the kind:
+ *
+ *   01 n t                            once: n processes, 1 to 64, of which at most t < n crash
+ *   02 process value(4)               n lines, processes 1 to n in order: what each proposes
+ *   03 process round step set(8) count   at most t lines, processes strictly rising: how a process crashes. Round is
+ *                                     1 to t + 1. Step 00: before it sends anything in that round; set and count are 0.
+ *                                     Step 01: in its own round (round = process), while it sends data; bit j - 1 of set
+ *                                     is 1 if process j got the data, all above it and at most n; count is 0. Step 02:
+ *                                     in its own round, while it sends commits; all data went out, and count commits did
+ *                                     (0 to n - process), to n, n - 1 and so on downward; set is 0.
+ *   04                                once: the end. Nothing follows.
+ *
+ * A RESULT is n + 1 lines of the same form, each of 16 digits and 0A:
+ *
+ *   11 process end round value(4)     for each process in order: end 01 decided, 02 crashed; the round in which it did;
+ *                                     the value that it decided, 0 if it crashed
+ *   12 rounds f speakers data(2) commits(2)   the last line: the run's rounds; how many crashed undecided; how many
+ *                                     coordinators began their own round up and undecided; frames sent in all
+ *
+ *   ticket      010402                        four processes, at most two crash
+ *               02010000000A                  process 1 proposes 0000000A, and so on
+ *               020200000014
+ *               02030000001E
+ *               020400000028
+ *               03010102000000000000000001    process 1 crashes in round 1 while sending commits, after one of them
+ *               04
+ *   result      1101020100000000              process 1 crashed in round 1
+ *               110201020000000A              process 2 decided 0000000A in round 2
+ *               110301020000000A
+ *               110401010000000A              process 4 had the one commit, and decided in round 1
+ *               1202010200050003              2 rounds, f 1, 2 speakers, 5 data frames, 3 commits
+ *
+ * The program `simulate` writes a refusal as one line, 1F number line(2), and uc_run answers it: see UC_REFUSALS.
+ *
+ * THE STATE of a process part is nine bytes that the host keeps (UC_STATE_.. are their places):
+ *
+ *   0  process   1 to n
+ *   1  n         processes, 1 to 64
+ *   2  t         most crashes, below n
+ *   3  round     the round that it is in, or in which it decided
+ *   4  mark      00 open, 01 decided, 02 rounds over
+ *   5..8 value   its estimate or decided value, most significant byte first
+ *
+ * A valid state has n, t and process within the limits and a mark of at most 02; marks 00 and 01 go with a round from 1
+ * to t + 1 that is not above the process; mark 02 with round = t + 1 < process. What uc_start and uc_close leave is
+ * valid.
+ *
+ * FRAMES are bytes too: a data frame is 21, round, value (4 bytes); a commit frame is 22, round.
+ *
+ * THE HOST'S OBLIGATIONS
+ *   The proofs speak of processes whose hosts do what follows. The library cannot see whether they do; where one does
+ *   not, two processes may decide differently and no call is refused. All hosts use the same n and t, each process is
+ *   started once, and at most t processes crash. In each round r, from 1 to t + 1, for each process that is up and open:
+ *
+ *   1. Speak once. uc_speak yields two frames in the process's own round (round = process) and nothing in any other.
+ *   2. Send all data before any commit: the data frame to every process above, r + 1 to n, whatever is known of it.
+ *   3. Send commits from n downward: the commit frame to n, n - 1, down to r + 1, one after the other. The list is fixed:
+ *      crashed and decided processes stand in it too.
+ *   4. The coordinator closes only after its last commit has left. Closing decides. If it decides with data unsent and
+ *      then loses power, the others may decide another value: uniform agreement is broken. With all data but not all
+ *      commits sent they agree, but may decide later than round f + 1.
+ *   5. Every frame that was sent in a round arrives before its receiver closes that round. A frame that is late or lost
+ *      is a broken switch, not a crash: closing without it may break agreement.
+ *   6. Close once, on what was heard in this round: nothing, the data frame, or the data frame and then the commit frame.
+ *      A process that heard nothing closes on nothing. The coordinator hears nothing.
+ *   7. A process begins round r + 1 only after every process that is up has closed round r.
+ *   8. A decided part is not called, nor one whose rounds are over: its mark says so, and a call is refused with 11. It
+ *      sends nothing more, and frames to it are dropped.
+ *   9. A process that stops, for whatever reason, stays out. One that a host cannot go on with counts as crashed: after a
+ *      refusal 12 it must not be closed on nothing instead, and a state read back after a loss of power is not used.
+ *
+ *   One round of one process, in a host of its own (send, sent, heard_in, stop and decided are the
+ *   host's):
+ *
+ *       uint8_t speech[UC_SPEECH_BYTES], heard[UC_SPEECH_BYTES];
+ *       unsigned r = state[UC_STATE_ROUND];
+ *       if (uc_speak(state, UC_STATE_BYTES, speech, sizeof speech) == UC_SPEECH_BYTES) {
+ *           for (unsigned p = r + 1; p <= n; p++)
+ *               send(p, speech, UC_DATA_BYTES);
+ *           for (unsigned p = n; p > r; p--)
+ *               send(p, speech + UC_DATA_BYTES, UC_COMMIT_BYTES);
+ *           sent();                                        waits until the last of them has left
+ *       }
+ *       size_t length = heard_in(r, heard);                waits until the round is over for all; 0, 6 or 8 bytes
+ *       uint64_t answer = uc_close(state, UC_STATE_BYTES, heard, length);
+ *       if (uc_close_refusal(answer))
+ *           stop(uc_refusal_text(uc_close_refusal(answer)));
+ *       if (state[UC_STATE_MARK] == UC_MARK_DECIDED)
+ *           decided(uc_state_value(state));                and this process is not called again
  */
 #ifndef AGREEMENT_H
 #define AGREEMENT_H
@@ -39,27 +119,136 @@
 extern "C" {
 #endif
 
-/* The sizes of a state and of what speaking yields, and the largest ticket and result. */
-#define UC_STATE_BYTES 9
-#define UC_FRAME_BYTES 8
-#define UC_TICKET_BYTES 4096
-#define UC_RESULT_BYTES 1105
+/* The version of this header and of the library that is installed with it. */
+#define UC_VERSION "1.1"
 
-/* An answer of uc_run or uc_settle is a refusal just if it is at least 65536; these take it apart. */
-#define UC_REFUSED(answer) ((answer) >= 65536u)
-#define UC_NUMBER(answer) ((unsigned)((answer) >> 16))
-#define UC_LINE(answer) ((unsigned)((answer) & 65535u))
+/* The most processes. */
+#define UC_MOST_PROCESSES 64
+
+/* The longest ticket, and the kinds and steps of its lines. */
+#define UC_TICKET_BYTES 4096
+#define UC_KIND_HEADER 0x01
+#define UC_KIND_PROPOSAL 0x02
+#define UC_KIND_FAILURE 0x03
+#define UC_KIND_END 0x04
+#define UC_STEP_BEFORE_SENDING 0
+#define UC_STEP_DURING_DATA 1
+#define UC_STEP_DURING_COMMITS 2
+
+/* The lines of a result with their 0A, the result of n processes, and the longest. */
+#define UC_PROCESS_LINE_BYTES 17
+#define UC_LAST_LINE_BYTES 17
+#define UC_RESULT_BYTES_FOR(n) (UC_PROCESS_LINE_BYTES * (n) + UC_LAST_LINE_BYTES)
+#define UC_RESULT_BYTES UC_RESULT_BYTES_FOR(UC_MOST_PROCESSES)
+#define UC_KIND_PROCESS 0x11
+#define UC_KIND_LAST 0x12
+#define UC_KIND_REFUSAL 0x1F
+#define UC_END_DECIDED 1
+#define UC_END_CRASHED 2
+
+/* The nine bytes of a state: the place of each field, and the marks. */
+#define UC_STATE_BYTES 9
+#define UC_STATE_PROCESS 0
+#define UC_STATE_N 1
+#define UC_STATE_T 2
+#define UC_STATE_ROUND 3
+#define UC_STATE_MARK 4
+#define UC_STATE_VALUE 5
+#define UC_MARK_OPEN 0
+#define UC_MARK_DECIDED 1
+#define UC_MARK_ROUNDS_OVER 2
+
+/* The frames: their first byte, the size of each, and of the two that uc_speak yields one behind the other. */
+#define UC_FRAME_DATA 0x21
+#define UC_FRAME_COMMIT 0x22
+#define UC_DATA_BYTES 6
+#define UC_COMMIT_BYTES 2
+#define UC_SPEECH_BYTES (UC_DATA_BYTES + UC_COMMIT_BYTES)
+
+/*
+ * THE REFUSALS, each with its text. 1 to 9 are of tickets (uc_run; uc_settle has no 9), 9 to 12 of the process part.
+ * UC_REFUSALS(X) is X(number, text) for each: make of it a table or a switch, as uc_refusal_text does.
+ */
+#define UC_REFUSALS(X) \
+    X(1, "the ticket has more than 4,096 bytes") \
+    X(2, "not a line: an even, non-zero count of digits 0-9 and A-F, closed by byte 0A") \
+    X(3, "a kind of line not allowed here, a wrong length for its kind, or the ticket over before its 04") \
+    X(4, "n or t outside the limits: n from 1 to 64, t below n") \
+    X(5, "not the proposal of the next process") \
+    X(6, "more than t failure lines") \
+    X(7, "process not within 1 to n or not rising, round not within 1 to t + 1, or a step above 02") \
+    X(8, "step 01 or 02 in another round than the process's own, or a set or count against its step") \
+    X(9, "the output is too short") \
+    X(10, "n, t or process outside the limits, not nine bytes of state, or not a valid state") \
+    X(11, "the process is not open: it has decided, or its rounds are over") \
+    X(12, "heard bytes that are not nothing, data, or data then commit of this round; or any byte in its own round")
+
+/* The text of a refusal; of any other number, 0 too, that it is none. Inline, as all that follows up to the calls. */
+static inline const char *uc_refusal_text(unsigned number)
+{
+#define UC_REFUSAL_CASE(refusal, text) \
+    case refusal: \
+        return text;
+    switch (number) {
+        UC_REFUSALS(UC_REFUSAL_CASE)
+    default:
+        return "no refusal of this version";
+    }
+#undef UC_REFUSAL_CASE
+}
+
+/*
+ * WHAT A CALL ANSWERED, one function for each call, since the same number means different things: uc_settle may answer
+ * round 10, uc_speak refusal 10. uc_CALL_refusal(answer) is the number of the refusal, and 0 if the call was not refused.
+ * For the two calls that take a ticket, uc_CALL_line(answer) is the refused line; lines count from 1, and 0 means that
+ * no line is wrong.
+ */
+static inline unsigned uc_run_refusal(uint64_t answer)
+{
+    return (unsigned)(answer >> 16);
+}
+static inline unsigned uc_run_line(uint64_t answer)
+{
+    return (unsigned)(uc_run_refusal(answer) ? answer & 65535u : 0u);
+}
+static inline unsigned uc_settle_refusal(uint64_t answer)
+{
+    return (unsigned)(answer >> 16);
+}
+static inline unsigned uc_settle_line(uint64_t answer)
+{
+    return (unsigned)(uc_settle_refusal(answer) ? answer & 65535u : 0u);
+}
+static inline unsigned uc_start_refusal(uint64_t answer)
+{
+    return (unsigned)answer;
+}
+static inline unsigned uc_speak_refusal(uint64_t answer)
+{
+    return answer == UC_SPEECH_BYTES ? 0u : (unsigned)answer;
+}
+static inline unsigned uc_close_refusal(uint64_t answer)
+{
+    return (unsigned)answer;
+}
+
+/* The value in a state, as a number. */
+static inline uint32_t uc_state_value(const uint8_t *state)
+{
+    const uint8_t *value = state + UC_STATE_VALUE;
+    return (uint32_t)value[0] << 24 | (uint32_t)value[1] << 16 | (uint32_t)value[2] << 8 | value[3];
+}
 
 /*
  * uc_run - run a ticket and write its result
  *
  *   ticket, ticket_len   the ticket's text
- *   output, output_len   where the result goes: 17(n + 1) bytes, n station lines and the last line, each closed by 0A
+ *   output, output_len   where the result goes: UC_RESULT_BYTES_FOR(n) bytes; UC_RESULT_BYTES are enough for every ticket
  *
- * Answers the number of bytes written, 17(n + 1), which is from 34 to 1105; the bytes of output after them are
- * unchanged. Or 65536 * number + line for refusal `number`, 1 to 9, at line `line` of the ticket (lines count from 1; 0
- * goes with refusals 1 and 9); then no byte of output is changed. Refusals are looked for in the order 1, then line by
- * line 2 to 8, then 9.
+ * Answers the number of bytes written, UC_RESULT_BYTES_FOR(n), which is from 34 to 1105; the bytes of output after them
+ * are unchanged. Or 65536 * number + line for refusal `number`, 1 to 9, at line `line` of the ticket (lines count from 1;
+ * 0 goes with refusals 1 and 9; a ticket that is over before its 04 is refused at the line after its last); then no byte
+ * of output is changed. Refusals are looked for in the order 1, then line by line 2 to 8, then 9.
  */
 uint64_t uc_run(const uint8_t *ticket, size_t ticket_len, uint8_t *output, size_t output_len);
 
@@ -70,27 +259,6 @@ uint64_t uc_run(const uint8_t *ticket, size_t ticket_len, uint8_t *output, size_
  * one of those rounds is not promised. Or 65536 * number + line for refusal `number`, 1 to 8.
  */
 uint64_t uc_settle(const uint8_t *ticket, size_t ticket_len);
-
-/*
- * THE STATE of a process part is nine bytes that the host keeps:
- *
- *   0  process   the station, 1 to n
- *   1  n         processes, 1 to 64
- *   2  t         most failures, below n
- *   3  round     the round that it is in, or in which it decided
- *   4  mark      00 open, 01 decided, 02 rounds over
- *   5..8 value   its estimate or decided value, most significant byte first
- *
- * A valid state has n, t and process within the limits and a mark of at most 02; marks 00 and 01 go with a round from 1
- * to t + 1 that is not above the process; mark 02 with round = t + 1 < process. What uc_start and uc_close leave is
- * valid.
- *
- * FRAMES are bytes too: 21, round, value (4 bytes) for data; 22, round for commit.
- *
- * In each round a host calls uc_speak once for each process that is up, sends what it yields to the processes above (the
- * data frame to all of them, and then the commit frame to n, n - 1, down to the next), and then calls uc_close once with
- * what that process heard. A process in its own round hears nothing.
- */
 
 /*
  * uc_start - start a process part: round 1, open, with its proposal

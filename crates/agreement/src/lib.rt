@@ -2,9 +2,9 @@
 ghost use mathlib.Core.Path.{_≡_};
 ghost use lib.ListN.{length};
 ghost use Rattle.formats.specs.Running.{running, bufferAfter};
-ghost use Rattle.process.specs.Start.{startRefusal, startBytes};
-ghost use Rattle.process.specs.Speak.{speakAnswer, speakOutput};
-ghost use Rattle.process.specs.Close.{closeRefusal, closeState};
+ghost use Rattle.part_format.specs.Start.{startRefusal, startBytes};
+ghost use Rattle.part_format.specs.Speak.{speakAnswer, speakOutput};
+ghost use Rattle.part_format.specs.Close.{closeRefusal, closeState};
 ghost use Prim.Native.Nat.{_+_, _*_};
 ghost use Rattle.formats.specs.Code.{refusalCode, runCode, SettlesAs};
 use running::RunAnswer;

@@ -1,4 +1,4 @@
--- Demand 1 of tickets. Assumes nothing.
+-- Demand 1, of tickets and of the process part. Assumes nothing.
 use mathlib.Core.List.{List}
 use mathlib.Core.Path.{_≡_, sym, _∙_}
 use Prim.Native.Nat.{ℕ, _≤_, _<_}
@@ -9,8 +9,9 @@ use Rattle.formats.specs.Code.{refusalsFrom, SettlesAs}
 use Rattle.formats.proofs.Passing.{refused-accepted}
 use Rattle.formats.proofs.FirstWrong.{wrong-refused, refused-wrong}
 use Rattle.formats.proofs.CodesApart.{codes-apart}
+use Rattle.part_format.proofs.Refused.{refused-change-nothing, speak-answers-apart}
 use Rattle.general.proofs.Tests.{by-order}
-use Rattle.demands.specs.Demand1.{SettleAnswered, round, refusal, TicketsAnswered}
+use Rattle.demands.specs.Demand1.{SettleAnswered, round, refusal, TicketsAnswered, Demand1}
 use Rattle.demands.proofs.Answered.{run-answered}
 
 settle-answered : (text : List ℕ) (code : ℕ) → SettlesAs text code → SettleAnswered text code
@@ -29,7 +30,7 @@ same-refusal number line number′ line′ e =
     let place : line ≡ line′ = cc in
     (same, place)
 
-pub tickets-answered : TicketsAnswered
+tickets-answered : TicketsAnswered
 tickets-answered =
     record {
       run = run-answered;
@@ -37,3 +38,6 @@ tickets-answered =
       onlyOne = λ text number line number′ line′ w w′. same-refusal number line number′ line′ (sym (wrong-refused text number line w) ∙ wrong-refused text number′ line′ w′);
       notBoth = λ text x number line read w. refused-accepted number line x (sym (wrong-refused text number line w) ∙ read);
     }
+
+pub demand-1 : Demand1
+demand-1 = record { tickets = tickets-answered; parts = refused-change-nothing; speaking = speak-answers-apart }

@@ -1,5 +1,6 @@
 -- Demand 2, second half, and demand 3 of separate parts, of every accepted text (`parts-claim`): an accepted text states a well-formed instance. Assumes nothing.
 use Rattle.formats.proofs.WellFormed.{accepted-well-formed}
+use Rattle.parts.proofs.Calls.{output-yielded}
 use Rattle.parts.proofs.DecideAlike.{parts-decide-alike, none-refused}
 use Rattle.parts.proofs.PartsConsensus.{parts-consensus, parts-no-later}
 use Rattle.demands.specs.PartsClaim.{PartsClaim}
@@ -13,4 +14,5 @@ parts-claim =
       consensus = λ text x read. parts-consensus x (accepted-well-formed text x read);
       noLater = λ a b x y read read′ paired.
           parts-no-later x y (accepted-well-formed a x read) (accepted-well-formed b y read′) (texts-paired a b x y read read′ paired);
+      outputYielded = output-yielded;
     }

@@ -11,6 +11,7 @@ use Rattle.formats.specs.Reading.{accepted}
 use Rattle.formats.specs.Ticket.{readTicket}
 use Rattle.formats.specs.FirstWrong.{FirstWrong}
 use Rattle.formats.specs.ResultLine.{resultText, resultSize}
+use Rattle.part_format.specs.Refused.{RefusedCallsChangeNothing, SpeakAnswersApart}
 use Rattle.formats.specs.Code.{refusalsFrom, refusalCode, RunCall, SettlesAs}
 
 -- Running a text into a buffer of `room` bytes is refused with this number and line: for its first wrong line, or, with 9 and no line, for want of room.
@@ -37,3 +38,10 @@ pub record TicketsAnswered : Type 0 where
   pub settle : (text : List ℕ) (code : ℕ) → SettlesAs text code → SettleAnswered text code
   pub onlyOne : (text : List ℕ) (number line number′ line′ : ℕ) → FirstWrong text number line → FirstWrong text number′ line′ → (number ≡ number′) × (line ≡ line′)
   pub notBoth : (text : List ℕ) (x : Instance) (number line : ℕ) → readTicket text ≡ accepted x → FirstWrong text number line → ⊥
+
+-- Demand 1: of tickets, and of the calls of the process part, where a refused one changes no byte.
+pub record Demand1 : Type 0 where
+  pub tickets : TicketsAnswered
+  pub parts : RefusedCallsChangeNothing
+  -- speaking's answer tells its refusal from what it yields
+  pub speaking : SpeakAnswersApart

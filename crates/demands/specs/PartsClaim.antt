@@ -7,6 +7,7 @@ use Rattle.protocol.specs.Consensus.{UniformConsensus, NoLater}
 use Rattle.formats.specs.Reading.{accepted}
 use Rattle.formats.specs.Ticket.{readTicket}
 use Rattle.parts.specs.DecideAlike.{DecideAlike, NoneRefused}
+use Rattle.parts.specs.Output.{OutputYielded}
 use Rattle.parts.specs.PartEnds.{endByPart, latestByParts}
 use Rattle.demands.specs.PairedTexts.{PairedTexts}
 
@@ -19,3 +20,5 @@ pub record PartsClaim : Type 0 where
   -- demand 3, by their own bytes
   pub consensus : (text : List ℕ) (x : Instance) → readTicket text ≡ accepted x → UniformConsensus (latestByParts x) x (endByPart x)
   pub noLater : (a b : List ℕ) (x y : Instance) → readTicket a ≡ accepted x → readTicket b ≡ accepted y → PairedTexts a b → NoLater x (endByPart x) y (endByPart y)
+  -- what these definitions take a part to yield is what its host finds in its buffer, of 8 bytes or more
+  pub outputYielded : OutputYielded

@@ -11,8 +11,8 @@ use lib.Seq.{take-all, length-take-le, getD-take, getD-drop}
 use borrow.Author.Tests.{eq-eqb, ne-eqb}
 use Rattle.general.specs.BigEndian.{number}
 use Rattle.protocol.specs.Message.{nothing, estimate, estimateAndCommit}
-use Rattle.encoding.specs.PartState.{stateFrom, isOwnRound}
-use Rattle.encoding.specs.Frame.{isDataFrame, isCommitFrame, messagesFrom, heardBy}
+use Rattle.part_format.specs.PartState.{stateFrom, isOwnRound}
+use Rattle.part_format.specs.Frame.{isDataFrame, isCommitFrame, messagesFrom, heardBy}
 
 -- A frame of this kind and of round r starts at `at`, where `next` is the place after it.
 abbrev pub starts : List ℕ → (at next kind r : ℕ) → Bool

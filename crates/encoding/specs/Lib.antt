@@ -1,3 +1,1 @@
-pub mod PartState
-pub mod Frame
 pub mod Heard

@@ -2,7 +2,7 @@
 ghost use mathlib.Core.Path.{_≡_};
 ghost use Prim.Native.Nat.{_<_};
 ghost use lib.ListN.{length, getD};
-ghost use Rattle.encoding.specs.PartState.{markOpen, identityValid, roundValid, fieldsValid, stateRefusal};
+ghost use Rattle.part_format.specs.PartState.{markOpen, identityValid, roundValid, fieldsValid, stateRefusal};
 
 // n, t and the process within the limits; a process from 1 to n leaves no n below 1.
 pub fn identity_valid(process: u64, n: u64, t: u64) -> bool

@@ -5,8 +5,8 @@ ghost use mathlib.Core.Bool.{_&&_};
 ghost use Prim.Native.Nat.{_+_, _≤_};
 ghost use lib.ListN.{length, getD};
 ghost use lib.Dec.{eqb};
-ghost use Rattle.encoding.specs.PartState.{stateFrom};
-ghost use Rattle.encoding.specs.Frame.{messagesFrom, heardBy};
+ghost use Rattle.part_format.specs.PartState.{stateFrom};
+ghost use Rattle.part_format.specs.Frame.{messagesFrom, heardBy};
 ghost use Rattle.encoding.specs.Heard.{heardAs};
 
 // The messages of a round.

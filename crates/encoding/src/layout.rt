@@ -6,8 +6,8 @@ ghost use lib.ListN.{length, take, drop};
 ghost use lib.Seq.{sets};
 ghost use Rattle.general.specs.BigEndian.{number, bytesOf};
 ghost use Rattle.protocol.specs.Message.{estimateAndCommit};
-ghost use Rattle.encoding.specs.PartState.{stateBytes};
-ghost use Rattle.encoding.specs.Frame.{framesOf};
+ghost use Rattle.part_format.specs.PartState.{stateBytes};
+ghost use Rattle.part_format.specs.Frame.{framesOf};
 
 // The number that four bytes stand for.
 fn number_of(first: u8, second: u8, third: u8, fourth: u8) -> u32

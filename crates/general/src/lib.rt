@@ -1,1 +1,1 @@
-// Definitions only: specs/.
+// Definitions and proofs only: specs/ and proofs/.

@@ -9,22 +9,33 @@ use borrow.Author.Tests.{eq-eqb, ne-eqb, eqb-true, eqb-false}
 use Rattle.protocol.specs.Message.{Messages, nothing}
 use Rattle.protocol.specs.Instance.{Instance, Fault}
 use Rattle.protocol.specs.Transition.{Outcome, continues, decides, sends, receives}
-use Rattle.protocol.specs.Round.{State, undecided, crashed, sentBy, crashesIn, afterOutcome, after}
+use Rattle.protocol.specs.Round.{State, undecided, decided, crashed, stateOf, sentBy, crashesIn, afterOutcome, after}
+use Rattle.protocol.specs.Run.{runTo}
 use Rattle.protocol.specs.WellFormed.{WellFormed}
 use Rattle.protocol.specs.Consensus.{IsProcess}
 use Rattle.protocol.proofs.Pointwise.{stateAt, state-at}
 use Rattle.protocol.proofs.Values.{Holds, holds-fitting}
 use Rattle.protocol.proofs.Coordinator.{waits-below}
-use Rattle.encoding.specs.PartState.{stateBytes, stateFrom, stateValid, isOwnRound, markOpen, markDecided}
-use Rattle.encoding.specs.Frame.{Carried, framesOf}
-use Rattle.process.specs.Speak.{speakRefusal, speakYields}
-use Rattle.process.specs.Close.{stateAfter, closedOn, closeRefusal, closeState}
-use Rattle.encoding.proofs.Valid.{Identity, within-valid}
-use Rattle.process.proofs.Exchange.{speak-yields, close-on-frames}
+use Rattle.part_format.specs.PartState.{stateBytes, stateFrom, stateValid, isOwnRound, markOpen, markDecided, markOver}
+use Rattle.part_format.specs.Frame.{framesOf}
+use Rattle.part_format.specs.Speak.{speakRefusal, speakYields}
+use Rattle.part_format.specs.Close.{stateAfter, closedOn, closeRefusal, closeState}
+use Rattle.part_format.proofs.Valid.{Identity, within-valid}
+use Rattle.part_format.proofs.Carried.{Carried}
+use Rattle.part_format.proofs.Exchange.{speak-taken, speak-yields, close-on-frames}
 use Rattle.parts.specs.Part.{Part, up, crashedIn, isOpen, outputRoom, yielded}
 use Rattle.parts.specs.Host.{partAfter}
-use Rattle.parts.specs.DecideAlike.{partState, partBytes, Alike, bothOpen, bothOver, bothDecided, bothCrashed}
-use Rattle.parts.proofs.Calls.{ended-silent, ended-stays, open-speaks}
+use Rattle.parts.specs.DecideAlike.{partState, partBytes}
+use Rattle.parts.proofs.Calls.{ended-silent, ended-stays}
+
+-- The state of process p after rounds 1 to r in the run, and its part then: open in the next round with the same estimate, after the last round with the mark
+-- "rounds over"; decided in the same round on the same value; crashed in the same round, with the bytes with which that round began.
+pub data Alike (x : Instance) (r p : ℕ) : State → Part → Type 0 where
+  bothOpen : {v : ℕ} → r ≤ x .resilience → Alike x r p (undecided v) (up (partBytes x p (suc r) markOpen v))
+  bothOver : {v : ℕ} → r ≡ suc (x .resilience) → Alike x r p (undecided v) (up (partBytes x p r markOver v))
+  bothDecided : {i v : ℕ} → Alike x r p (decided i v) (up (partBytes x p i markDecided v))
+  bothCrashed : {i v : ℕ} → stateOf (runTo x i .states) p ≡ undecided v
+      → Alike x r p (crashed (suc i)) (crashedIn (suc i) (partBytes x p (suc i) markOpen v))
 
 -- The part of a decided process is not open.
 decided-ended : (x : Instance) (p i v : ℕ) → stateFrom (partBytes x p i markDecided v) .mark ≡ 0 → ⊥
@@ -49,8 +60,8 @@ module _ (x : Instance) (formed : WellFormed x) where
 
       -- It is not refused when it speaks; what it yields; and what it becomes on frames of the round: in its own round it takes none.
       pub open-spoken : speakRefusal (partBytes x p (suc r) markOpen v) outputRoom ≡ 0
-      unfolding partState
-      open-spoken = open-speaks (partState x p (suc r) markOpen v) open-valid refl value-fits
+      unfolding partState outputRoom
+      open-spoken = speak-taken (partState x p (suc r) markOpen v) open-valid refl value-fits outputRoom (omega arith)
 
       open-yields : speakYields (partBytes x p (suc r) markOpen v) outputRoom ≡ framesOf (suc r) (sends (eqb p (suc r)) v)
       unfolding isOwnRound partState outputRoom

@@ -1,25 +1,23 @@
--- The calls of one part, as far as the process's own laws leave them: one that is not open yields nothing and stays as it is; an open one is not refused when it speaks;
+-- The calls of one part, as far as the process's own laws leave them: one that is not open yields nothing and stays as it is;
 -- and what a part yields is what its host finds in the buffer. Assumes nothing.
 use mathlib.Core.List.{List, []}
 use mathlib.Core.Logic.{_⊎_, inl, inr}
-use mathlib.Core.Path.{_≡_, refl, sym}
-use mathlib.Core.Bool.{Bool, true, false, cond, not, _&&_}
-use Prim.Native.Nat.{ℕ, _^_, _≤_, _<_}
+use mathlib.Core.Path.{_≡_, refl, sym, ap, _∙_}
+use Prim.Native.Nat.{ℕ, _≤_, _<_}
 use native.Mathlib.Omega.{arith}
-use lib.Dec.{eqb, ltb}
-use lib.ListN.{length, take}
-use lib.Seq.{take-append-seam}
-use borrow.Author.Tests.{ne-eqb, le-ltb}
-use Rattle.protocol.specs.Transition.{sends}
-use Rattle.encoding.specs.PartState.{PartState, stateBytes, stateFrom, stateValid, stateRefusal, isOwnRound, markOpen}
-use Rattle.encoding.specs.Frame.{framesOf}
-use Rattle.process.specs.Speak.{spokenBy, speakRefusal, speakYields, speakAnswer, speakOutput}
-use Rattle.process.specs.Close.{closeState}
-use Rattle.encoding.proofs.Opened.{opened}
-use Rattle.process.proofs.Operations.{length-frames, close-refused}
-use Rattle.encoding.proofs.RoundTrip.{state-from-bytes}
-use Rattle.encoding.proofs.ValidBytes.{open-bytes}
-use Rattle.parts.specs.Part.{outputRoom, OutputYielded}
+use lib.ListN.{length}
+use lib.Seq.{take-append-seam, drop-append-seam}
+use borrow.Author.Tests.{ne-eqb}
+use Rattle.part_format.specs.PartState.{stateFrom, stateRefusal}
+use Rattle.part_format.specs.Speak.{speakRefusal, speakYields, speakOutput}
+use Rattle.part_format.specs.Close.{closeState}
+use Rattle.part_format.specs.Refused.{AnswersCount, AnswersRefusal, SpeakAnswersApart}
+use Rattle.part_format.proofs.Opened.{opened}
+use Rattle.part_format.proofs.Operations.{close-refused}
+use Rattle.part_format.proofs.Room.{same-yields}
+use Rattle.part_format.proofs.Refused.{speak-answers-apart}
+use Rattle.parts.specs.Part.{up, outputRoom, yielded}
+use Rattle.parts.specs.Output.{FindsYielded, OutputYielded}
 
 -- A part that is not open.
 module _ (b : List ℕ) (ended : stateFrom b .mark ≡ 0 → ⊥) where
@@ -34,39 +32,45 @@ module _ (b : List ℕ) (ended : stateFrom b .mark ≡ 0 → ⊥) where
   pub ended-stays : (frames : List ℕ) → closeState b frames ≡ b
   ended-stays frames = sym (close-refused b frames (stateRefusal b) refl not-taken .1)
 
--- What a part sends has room.
-spoken-fits : (s : PartState) (own : Bool) → isOwnRound s ≡ own → length (spokenBy s) ≤ outputRoom
-unfolding spokenBy sends framesOf outputRoom
-spoken-fits s true e = rw (e, length-frames) (omega arith)
-spoken-fits s false e = rw e (omega arith)
-
-pub open-speaks : (s : PartState) → stateValid s ≡ true → s .mark ≡ 0 → s .value < 2 ^ 32 → speakRefusal (stateBytes s) outputRoom ≡ 0
-unfolding speakRefusal
-open-speaks s valid isOpen fits =
-    let room : ltb outputRoom (length (spokenBy s)) ≡ false = le-ltb outputRoom _ (spoken-fits s (isOwnRound s) refl) in
-    simp (open-bytes s valid isOpen, state-from-bytes s fits, room)
-
--- A number that is no refusal of speaking is 0; a refusal is 9 or above.
-zero-or-refusal : (invalid ended short : Bool) (state k : ℕ) → state ≡ cond invalid 10 (cond ended 11 0) → k ≡ cond (not (eqb state 0)) state (cond short 9 0)
-    → (k ≡ 0) ⊎ (8 < k)
-zero-or-refusal true ended short state k e f = inr (rw (f, e) (omega arith))
-zero-or-refusal false true short state k e f = inr (rw (f, e) (omega arith))
-zero-or-refusal false false true state k e f = inr (rw (f, e) (omega arith))
-zero-or-refusal false false false state k e f = inl (rw (f, e))
-
-speak-refusal : (b : List ℕ) (room : ℕ) → (speakRefusal b room ≡ 0) ⊎ (8 < speakRefusal b room)
-unfolding speakRefusal stateRefusal
-speak-refusal b room =
-    zero-or-refusal (not (eqb (length b) 9 && stateValid (stateFrom b))) (not (eqb (stateFrom b .mark) markOpen)) (ltb room (length (spokenBy (stateFrom b))))
-    (stateRefusal b) _ refl refl
-
 -- The host finds in its buffer what a part yields.
+module _ (b output : List ℕ) (enough : outputRoom ≤ length output) where
+  same-yielded : speakYields b (length output) ≡ yielded (up b)
+  unfolding yielded outputRoom
+  same-yielded = same-yields b (length output) enough
+
+  yields-nothing : 9 ≤ speakRefusal b (length output) → speakYields b (length output) ≡ []
+  unfolding speakYields
+  yields-nothing high = simp (ne-eqb (speakRefusal b (length output)) 0 (λ e. omega arith))
+
+  counted-front : AnswersCount b (length output) → FindsYielded b output
+  unfolding speakOutput
+  counted-front c =
+      record {
+        front = λ low. rw (c .count, same-yielded) (take-append-seam (yielded (up b)) _);
+        counted = λ low. c .count ∙ ap length same-yielded;
+        refused = λ high. absurd (at-most-eight (c .size) high);
+        behind = rw same-yielded (drop-append-seam (yielded (up b)) _);
+      }
+    where
+      at-most-eight : {k : ℕ} → (k ≡ 0) ⊎ (k ≡ 8) → 8 < k → ⊥
+      at-most-eight (inl e) h = omega arith
+      at-most-eight (inr e) h = omega arith
+
+  refused-front : AnswersRefusal b (length output) → FindsYielded b output
+  unfolding speakOutput
+  refused-front a =
+      let none : yielded (up b) ≡ [] = sym same-yielded ∙ yields-nothing (omega (arith, a)) in
+      record {
+        front = λ low. absurd (let z : ⊥ = omega (arith, a) in z);
+        counted = λ low. absurd (let z : ⊥ = omega (arith, a) in z);
+        refused = λ high. (a .refusal, none);
+        behind = rw same-yielded (drop-append-seam (yielded (up b)) _);
+      }
+
 pub output-yielded : OutputYielded
-unfolding OutputYielded speakAnswer speakOutput
-output-yielded b output room answered = by-answer (speak-refusal b (length output))
+unfolding OutputYielded SpeakAnswersApart
+output-yielded b output enough = by-answer (speak-answers-apart b (length output))
   where
-    by-answer : (speakRefusal b (length output) ≡ 0) ⊎ (8 < speakRefusal b (length output)) → take (speakAnswer b (length output)) (speakOutput b output) ≡ speakYields b outputRoom
-    by-answer (inl none) = rw (none, take-append-seam, room)
-    by-answer (inr high) =
-        let refused : eqb (speakRefusal b (length output)) 0 ≡ false = ne-eqb _ 0 (λ (e : speakRefusal b (length output) ≡ 0). omega arith) in
-        absurd (let z : ⊥ = omega (arith, rw refused at answered) in z)
+    by-answer : AnswersCount b (length output) ⊎ AnswersRefusal b (length output) → FindsYielded b output
+    by-answer (inl c) = counted-front b output enough c
+    by-answer (inr a) = refused-front b output enough a

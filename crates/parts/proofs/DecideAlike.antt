@@ -7,6 +7,7 @@ use Prim.Native.Nat.{ℕ, zero, suc, _^_, _≤_, _<_}
 use native.Mathlib.Omega.{arith}
 use lib.ListN.{length}
 use Rattle.protocol.specs.Instance.{Instance, faultOf, proposalOf}
+use Rattle.protocol.specs.Delivery.{reach}
 use Rattle.protocol.specs.Round.{State, undecided, decided, crashed, stateOf, sentBy, received}
 use Rattle.protocol.specs.Run.{runTo, runOf}
 use Rattle.protocol.specs.WellFormed.{WellFormed}
@@ -15,20 +16,21 @@ use Rattle.protocol.proofs.Pointwise.{stateAt, state-at}
 use Rattle.protocol.proofs.Rounds.{received-below}
 use Rattle.protocol.proofs.History.{heardAt, undecided-crashed, decided-crashed}
 use Rattle.protocol.proofs.Values.{Holds, holds-fitting}
-use Rattle.encoding.specs.PartState.{stateBytes, stateFrom, markOpen, markDecided}
-use Rattle.encoding.specs.Frame.{Carried, framesOf}
-use Rattle.process.specs.Start.{startRefusal, startState, startBytes}
-use Rattle.process.specs.Speak.{speakRefusal}
-use Rattle.process.specs.Close.{closeRefusal}
-use Rattle.encoding.proofs.Valid.{identity-holds}
-use Rattle.process.proofs.Operations.{start-written}
-use Rattle.process.proofs.Exchange.{sends-carried, arriving-carried}
+use Rattle.part_format.specs.PartState.{stateBytes, stateFrom, markOpen, markDecided}
+use Rattle.part_format.specs.Frame.{framesOf}
+use Rattle.part_format.specs.Start.{startRefusal, startState, startBytes}
+use Rattle.part_format.specs.Speak.{speakRefusal}
+use Rattle.part_format.specs.Close.{closeRefusal}
+use Rattle.part_format.proofs.Valid.{identity-holds}
+use Rattle.part_format.proofs.Operations.{start-written}
+use Rattle.part_format.proofs.Carried.{Carried, sends-carried, arriving-carried}
 use Rattle.parts.specs.Part.{Part, up, partOf, isOpen, outputRoom, yielded}
-use Rattle.parts.specs.Hearing.{letThrough, heard}
+use Rattle.parts.specs.Hearing.{reachFrom, letThrough, heard}
 use Rattle.parts.specs.Host.{blank, partsTo, partsOf, endPartOf}
-use Rattle.parts.specs.DecideAlike.{partState, partBytes, Alike, bothOpen, bothOver, bothDecided, bothCrashed, CrashedAlike, DecideAlike, NoneRefused}
+use Rattle.parts.specs.DecideAlike.{partState, partBytes, CrashedAlike, DecideAlike, OpenAfter, NoneRefused}
 use Rattle.parts.proofs.Places.{length-parts, part-started, part-after}
 use Rattle.parts.proofs.Hearing.{heard-from-one, frames-reaching}
+use Rattle.parts.proofs.Alike.{Alike, bothOpen, bothOver, bothDecided, bothCrashed}
 use Rattle.parts.proofs.Alike.{identity, open-spoken, open-after, coordinator-yields, others-silent, round-alike}
 
 -- What is sent has a value of four bytes, if the coordinator's has.
@@ -79,7 +81,7 @@ module _ (x : Instance) (formed : WellFormed x) where
   module _ (r : ℕ) (within : r ≤ x .resilience) (alike : AllAlike r) where
     -- The frames that process p hears carry what it receives in the run.
     heard-received : (p : ℕ) → heard x (suc r) p (partsTo x r) ≡ framesOf (suc r) (heardAt x r p)
-    unfolding letThrough received
+    unfolding letThrough reachFrom received reach
     heard-received p =
         let as-many : length (partsTo x r) ≡ x .processes = length-parts x r ∙ formed .all-propose in
         let coordinator : IsProcess x (suc r) = record { first = omega arith; last = omega arith } in
@@ -113,22 +115,21 @@ module _ (x : Instance) (formed : WellFormed x) where
   unfolding endOf runOf endPartOf partsOf
   parts-decide-alike =
       record {
-        whenDecided = λ p r v process e. decided-part x _ p r v (parts-alike _ p (omega arith) process) e;
+        whenDecided = λ p r v d. decided-part x _ p r v (parts-alike _ p (omega arith) (d .process)) (d .state);
         whenCrashed = λ p r process e. crashed-part x _ p r (parts-alike _ p (omega arith) process) e;
       }
 
-  speaks-taken : (r p : ℕ) (b : List ℕ) → r ≤ x .resilience → IsProcess x p → partOf (partsTo x r) p ≡ up b → isOpen b ≡ true → speakRefusal b outputRoom ≡ 0
-  speaks-taken r p b within process e marked =
-      let (v, waiting, same) = open-part x r p b within marked (alike-after r (omega arith) p process) e in
-      rw (← same) (open-spoken x formed r p within process v waiting)
+  speaks-taken : (r p : ℕ) (b : List ℕ) → OpenAfter x r p b → speakRefusal b outputRoom ≡ 0
+  speaks-taken r p b o =
+      let (v, waiting, same) = open-part x r p b (o .within) (o .marked) (alike-after r (omega arith) p (o .process)) (o .kept) in
+      rw (← same) (open-spoken x formed r p (o .within) (o .process) v waiting)
 
-  close-taken : (r p : ℕ) (b : List ℕ) → r ≤ x .resilience → IsProcess x p → partOf (partsTo x r) p ≡ up b → isOpen b ≡ true
-      → closeRefusal b (heard x (suc r) p (partsTo x r)) ≡ 0
-  close-taken r p b within process e marked =
+  close-taken : (r p : ℕ) (b : List ℕ) → OpenAfter x r p b → closeRefusal b (heard x (suc r) p (partsTo x r)) ≡ 0
+  close-taken r p b o =
       let before : AllAlike r = alike-after r (omega arith) in
-      let (v, waiting, same) = open-part x r p b within marked (before p process) e in
-      rw (← same, heard-received r within before p)
-      (open-after x formed r p within process v waiting (heardAt x r p) (received-carried r p) (λ low. received-below _ _ _ p _ low) .0)
+      let (v, waiting, same) = open-part x r p b (o .within) (o .marked) (before p (o .process)) (o .kept) in
+      rw (← same, heard-received r (o .within) before p)
+      (open-after x formed r p (o .within) (o .process) v waiting (heardAt x r p) (received-carried r p) (λ low. received-below _ _ _ p _ low) .0)
 
   pub none-refused : NoneRefused x
   none-refused = record { whenStarted = λ p process. sym (started p process .0); whenSpeaking = speaks-taken; whenClosing = close-taken }

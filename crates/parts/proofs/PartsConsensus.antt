@@ -14,12 +14,13 @@ use Rattle.protocol.proofs.Pointwise.{states-ext, state-at, length-states}
 use Rattle.protocol.proofs.Values.{Holds, holds-fitting}
 use Rattle.protocol.proofs.Consensus.{uniform-consensus}
 use Rattle.protocol.proofs.Pair.{no-later}
-use Rattle.encoding.proofs.RoundTrip.{state-from-bytes}
+use Rattle.part_format.proofs.RoundTrip.{state-from-bytes}
 use Rattle.parts.specs.Part.{Part, crashedIn, partOf}
 use Rattle.parts.specs.Host.{partsTo, partsOf, endPartOf}
-use Rattle.parts.specs.DecideAlike.{partState, Alike, bothOpen, bothOver, bothDecided, bothCrashed}
+use Rattle.parts.specs.DecideAlike.{partState}
 use Rattle.parts.specs.PartEnds.{stateByPart, endByPart, latestByParts}
 use Rattle.parts.proofs.Places.{length-parts}
+use Rattle.parts.proofs.Alike.{Alike, bothOpen, bothOver, bothDecided, bothCrashed}
 use Rattle.parts.proofs.DecideAlike.{parts-alike}
 
 -- A part that is like its process says so.

@@ -5,7 +5,7 @@ use native.Mathlib.Omega.{arith}
 use lib.ListN.{length}
 use Rattle.general.proofs.Indexed.{length-mapFrom, mapFrom-at}
 use Rattle.protocol.specs.Instance.{Instance, faultOf, proposalOf}
-use Rattle.process.specs.Start.{startBytes}
+use Rattle.part_format.specs.Start.{startBytes}
 use Rattle.parts.specs.Part.{up, partOf}
 use Rattle.parts.specs.Hearing.{heard}
 use Rattle.parts.specs.Host.{blank, startedParts, partAfter, partsAfter, partsTo}

@@ -4,13 +4,13 @@ use mathlib.Core.Path.{_≡_}
 use mathlib.Core.Bool.{true}
 use Prim.Native.Nat.{ℕ, suc, _≤_}
 use Rattle.protocol.specs.Instance.{Instance}
-use Rattle.protocol.specs.Round.{State, undecided, decided, crashed, stateOf}
+use Rattle.protocol.specs.Round.{undecided, crashed, stateOf}
 use Rattle.protocol.specs.Run.{runTo}
-use Rattle.protocol.specs.Consensus.{IsProcess, endOf}
-use Rattle.encoding.specs.PartState.{PartState, stateBytes, markOpen, markDecided, markOver}
-use Rattle.process.specs.Start.{startRefusal}
-use Rattle.process.specs.Speak.{speakRefusal}
-use Rattle.process.specs.Close.{closeRefusal}
+use Rattle.protocol.specs.Consensus.{IsProcess, Decides, endOf}
+use Rattle.part_format.specs.PartState.{PartState, stateBytes, markOpen, markDecided}
+use Rattle.part_format.specs.Start.{startRefusal}
+use Rattle.part_format.specs.Speak.{speakRefusal}
+use Rattle.part_format.specs.Close.{closeRefusal}
 use Rattle.parts.specs.Part.{Part, up, crashedIn, partOf, isOpen, outputRoom}
 use Rattle.parts.specs.Hearing.{heard}
 use Rattle.parts.specs.Host.{blank, partsTo, endPartOf}
@@ -24,14 +24,6 @@ partState x p round mark v =
 abbrev pub partBytes : Instance → (p round mark v : ℕ) → List ℕ
 partBytes x p round mark v = stateBytes (partState x p round mark v)
 
--- For the proofs alone, a step on the way to `DecideAlike`. The state of process p after rounds 1 to r in the run, and its part then: open in the next round with the same estimate, after the last round with the mark
--- "rounds over"; decided in the same round on the same value; crashed in the same round, with the bytes with which that round began.
-pub data Alike (x : Instance) (r p : ℕ) : State → Part → Type 0 where
-  bothOpen : {v : ℕ} → r ≤ x .resilience → Alike x r p (undecided v) (up (partBytes x p (suc r) markOpen v))
-  bothOver : {v : ℕ} → r ≡ suc (x .resilience) → Alike x r p (undecided v) (up (partBytes x p r markOver v))
-  bothDecided : {i v : ℕ} → Alike x r p (decided i v) (up (partBytes x p i markDecided v))
-  bothCrashed : {i v : ℕ} → stateOf (runTo x i .states) p ≡ undecided v → Alike x r p (crashed (suc i)) (crashedIn (suc i) (partBytes x p (suc i) markOpen v))
-
 -- The part of a process that crashes in round r: it keeps the nine bytes with which the round began, open and with the estimate that the process has then in the run.
 pub record CrashedAlike (x : Instance) (p r : ℕ) (part : Part) : Type 0 where
   pub before : ℕ
@@ -42,12 +34,19 @@ pub record CrashedAlike (x : Instance) (p r : ℕ) (part : Part) : Type 0 where
 
 -- The claim: a process that decides has a part that is up with its round, mark 01 and its value; one that crashes, a part that crashed in the same round.
 pub record DecideAlike (x : Instance) : Type 0 where
-  pub whenDecided : (p r v : ℕ) → IsProcess x p → endOf x p ≡ decided r v → endPartOf x p ≡ up (partBytes x p r markDecided v)
+  pub whenDecided : (p r v : ℕ) → Decides x (endOf x) p r v → endPartOf x p ≡ up (partBytes x p r markDecided v)
   pub whenCrashed : (p r : ℕ) → IsProcess x p → endOf x p ≡ crashed r → CrashedAlike x p r (endPartOf x p)
+
+-- After rounds 1 to r, and before another, the part of process p is open, with these nine bytes.
+pub record OpenAfter (x : Instance) (r p : ℕ) (b : List ℕ) : Type 0 where
+  pub process : IsProcess x p
+  pub within : r ≤ x .resilience
+  pub kept : partOf (partsTo x r) p ≡ up b
+  -- its mark is 00
+  pub marked : isOpen b ≡ true
 
 -- No call is refused while its part is open: in each round r + 1 of the run, and at the start.
 pub record NoneRefused (x : Instance) : Type 0 where
   pub whenStarted : (p : ℕ) → IsProcess x p → startRefusal p (x .processes) (x .resilience) blank ≡ 0
-  pub whenSpeaking : (r p : ℕ) (b : List ℕ) → r ≤ x .resilience → IsProcess x p → partOf (partsTo x r) p ≡ up b → isOpen b ≡ true → speakRefusal b outputRoom ≡ 0
-  pub whenClosing : (r p : ℕ) (b : List ℕ) → r ≤ x .resilience → IsProcess x p → partOf (partsTo x r) p ≡ up b → isOpen b ≡ true
-      → closeRefusal b (heard x (suc r) p (partsTo x r)) ≡ 0
+  pub whenSpeaking : (r p : ℕ) (b : List ℕ) → OpenAfter x r p b → speakRefusal b outputRoom ≡ 0
+  pub whenClosing : (r p : ℕ) (b : List ℕ) → OpenAfter x r p b → closeRefusal b (heard x (suc r) p (partsTo x r)) ≡ 0

@@ -6,8 +6,8 @@ use lib.ListN.{replicate}
 use Rattle.general.specs.Indexed.{mapFrom}
 use Rattle.protocol.specs.Instance.{Instance, Fault, faultOf}
 use Rattle.protocol.specs.Round.{crashesIn}
-use Rattle.process.specs.Start.{startBytes}
-use Rattle.process.specs.Close.{closeState}
+use Rattle.part_format.specs.Start.{startBytes}
+use Rattle.part_format.specs.Close.{closeState}
 use Rattle.parts.specs.Part.{Part, up, crashedIn, partOf, isOpen}
 use Rattle.parts.specs.Hearing.{heard}
 

@@ -1,12 +1,11 @@
 -- A process part as its host keeps it (document 01, 'The desk part': "keeps each desk's state as nine lent bytes").
 use mathlib.Core.List.{List, []}
-use mathlib.Core.Path.{_≡_}
-use Prim.Native.Nat.{ℕ, _-_, _≤_}
+use Prim.Native.Nat.{ℕ, _-_}
 use mathlib.Core.Bool.{Bool}
 use lib.Dec.{eqb}
-use lib.ListN.{length, getD, take}
-use Rattle.encoding.specs.PartState.{stateFrom, markOpen}
-use Rattle.process.specs.Speak.{speakYields, speakAnswer, speakOutput}
+use lib.ListN.{getD}
+use Rattle.part_format.specs.PartState.{stateFrom, markOpen}
+use Rattle.part_format.specs.Speak.{speakYields}
 
 -- Up, with its nine bytes; or crashed in this round, with the nine bytes with which the round began (document 01: dark). A crashed part is not called again.
 pub data Part : Type 0 where
@@ -29,9 +28,3 @@ outputRoom = 8
 unfoldable pub yielded : Part → List ℕ
 yielded (up b) = speakYields b outputRoom
 yielded (crashedIn round b) = []
-
--- The claim on a host's buffer: what a part yields stands at its front, as many bytes as the answer to the call says, and an answer above 8 is a refusal (document 01, 'The desk part': "Speaking yields data then commit (8 bytes) in the desk's own round, else no bytes").
-unfoldable pub OutputYielded : Type 0
-OutputYielded =
-    (b output : List ℕ) → length output ≡ outputRoom → speakAnswer b (length output) ≤ 8
-    → take (speakAnswer b (length output)) (speakOutput b output) ≡ speakYields b outputRoom

@@ -6,7 +6,7 @@ use lib.Dec.{eqb}
 use Rattle.protocol.specs.Instance.{Instance}
 use Rattle.protocol.specs.Round.{State, undecided, decided, crashed}
 use Rattle.protocol.specs.CrashCount.{crashCount}
-use Rattle.encoding.specs.PartState.{stateFrom, markDecided}
+use Rattle.part_format.specs.PartState.{stateFrom, markDecided}
 use Rattle.parts.specs.Part.{Part, up, crashedIn}
 use Rattle.parts.specs.Host.{partsOf, endPartOf}
 

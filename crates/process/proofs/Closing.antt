@@ -8,9 +8,9 @@ use borrow.Author.Tests.{eq-eqb, ne-eqb}
 use Rattle.general.specs.BigEndian.{number}
 use Rattle.protocol.specs.Message.{Messages, nothing, estimate, estimateAndCommit}
 use Rattle.protocol.specs.Transition.{continues, decides, receives}
-use Rattle.encoding.specs.PartState.{PartState, stateBytes, stateFrom, isOwnRound}
-use Rattle.process.specs.Close.{stateAfter, closedOn}
-use Rattle.encoding.proofs.Bytes.{value-from}
+use Rattle.part_format.specs.PartState.{PartState, stateBytes, stateFrom, isOwnRound}
+use Rattle.part_format.specs.Close.{stateAfter, closedOn}
+use Rattle.process.proofs.Bytes.{value-from}
 
 -- The process, n and t of a state, with another round, mark and value.
 abbrev pub withMark : List ℕ → (round mark v : ℕ) → PartState

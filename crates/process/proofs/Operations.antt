@@ -1,24 +1,23 @@
--- What the three operations answer and leave, one law for each way that they end. Assumes nothing.
-use mathlib.Core.Path.{_≡_, refl, ap, _∙_, sym}
+-- What starting and speaking answer and leave, one law for each way that they end that part_format's laws leave. Assumes nothing.
+use mathlib.Core.Path.{_≡_, ap, _∙_}
 use mathlib.Core.List.{List, [], _++_}
 use mathlib.Core.Bool.{true, false, and-false}
-use mathlib.Core.Option.{some, none}
 use Prim.Native.Nat.{ℕ, _≤_, _<_}
 use native.Mathlib.Omega.{arith}
 use lib.ListN.{length, getD, take, drop}
 use lib.Dec.{eqb, ltb}
 use borrow.Author.Tests.{eq-eqb, ne-eqb, lt-ltb, le-ltb}
-use Rattle.general.specs.BigEndian.{number, bytesOf}
-use Rattle.protocol.specs.Message.{estimateAndCommit, Messages}
+use Rattle.general.specs.BigEndian.{number}
+use Rattle.protocol.specs.Message.{estimateAndCommit}
 use Rattle.protocol.specs.Transition.{sends}
-use Rattle.encoding.specs.PartState.{stateBytes, identityValid, stateFrom, stateRefusal, isOwnRound}
-use Rattle.process.specs.Start.{startRefusal, startState, startBytes}
-use Rattle.encoding.specs.Frame.{dataFrame, commitFrame, framesOf, heardBy}
-use Rattle.process.specs.Speak.{spokenBy, speakRefusal, speakYields, speakAnswer, speakOutput}
-use Rattle.process.specs.Close.{closedOn, heardRefusal, closeRefusal, closeOnHeard, closeState}
-use Rattle.encoding.proofs.Bytes.{value-from}
+use Rattle.part_format.specs.PartState.{identityValid, stateFrom, stateRefusal, isOwnRound}
+use Rattle.part_format.specs.Start.{startRefusal, startBytes}
+use Rattle.part_format.specs.Frame.{framesOf}
+use Rattle.part_format.specs.Speak.{spokenBy, speakRefusal, speakYields, speakAnswer, speakOutput}
+use Rattle.part_format.proofs.Operations.{length-frames}
+use Rattle.process.proofs.Bytes.{value-from}
 
--- What starting answers and leaves.
+-- What starting answers and leaves where it is refused.
 module _ (p n t v : ℕ) (lent : List ℕ) where
   pub start-length : (length lent ≡ 9 → ⊥) → (10 ≡ startRefusal p n t lent) × (lent ≡ startBytes p n t v lent)
   unfolding startRefusal startBytes
@@ -27,17 +26,6 @@ module _ (p n t v : ℕ) (lent : List ℕ) where
   pub start-identity : identityValid p n t ≡ false → (10 ≡ startRefusal p n t lent) × (lent ≡ startBytes p n t v lent)
   unfolding startRefusal startBytes
   start-identity a = (simp a, simp a)
-
-  module _ (identity : identityValid p n t ≡ true) where
-    pub start-written : (after : List ℕ) → length lent ≡ 9 → after ≡ stateBytes (startState p n t v)
-        → (0 ≡ startRefusal p n t lent) × (after ≡ startBytes p n t v lent)
-    unfolding startRefusal startBytes
-    start-written after h e = (simp (identity, eq-eqb), simp (identity, eq-eqb) e)
-
--- Data then commit are eight bytes.
-pub length-frames : (r v : ℕ) → length (framesOf r (estimateAndCommit v)) ≡ 8
-unfolding framesOf dataFrame commitFrame bytesOf
-length-frames r v = refl
 
 -- What speaking answers and leaves.
 module _ (state output : List ℕ) where
@@ -77,21 +65,3 @@ module _ (state output : List ℕ) where
           let room : ltb (length output) 8 ≡ false = le-ltb _ _ h in
           let value : v ≡ number (drop 5 state) = ev ∙ ap number (value-from state nine) in
           (simp (opened, spoken-by-own, length-frames, room), simp (opened, spoken-by-own, length-frames, room, ← value) e)
-
--- What closing answers and leaves.
-module _ (state heard : List ℕ) where
-  pub close-refused : (k : ℕ) → k ≡ stateRefusal state → (k ≡ 0 → ⊥) → (k ≡ closeRefusal state heard) × (state ≡ closeState state heard)
-  unfolding closeRefusal closeState
-  close-refused k e h =
-      let refused : eqb (stateRefusal state) 0 ≡ false = ne-eqb _ _ (λ z. h (e ∙ z)) in
-      (simp refused e, simp refused)
-
-  module _ (opened : stateRefusal state ≡ 0) where
-    pub close-no-form : none ≡ heardBy (stateFrom state) heard → (12 ≡ closeRefusal state heard) × (state ≡ closeState state heard)
-    unfolding closeRefusal closeState heardRefusal closeOnHeard
-    close-no-form e = let f = sym e in (simp (opened, f), simp (opened, f))
-
-    pub close-closed : (after : List ℕ) (m : Messages) → some m ≡ heardBy (stateFrom state) heard → after ≡ stateBytes (closedOn (stateFrom state) m)
-        → (0 ≡ closeRefusal state heard) × (after ≡ closeState state heard)
-    unfolding closeRefusal closeState heardRefusal closeOnHeard
-    close-closed after m e a = let f = sym e in (simp (opened, f), simp (opened, f) a)

@@ -1,4 +1,1 @@
-pub mod Start
-pub mod Speak
-pub mod Close
-pub mod Leaves
+pub mod RoundFits

@@ -1,5 +1,5 @@
 // The process part: starting, speaking and closing a round over nine lent bytes (document 01, 'The desk part' and 'Refused calls').
-// Each operation is total. Its answer and every byte afterwards, on refusals too, are given by the definitions of specs/.
+// Each operation is total. Its answer and every byte afterwards, on refusals too, are given by the definitions of part_format.
 mod transition;
 
 use encoding::check::identity_valid;
@@ -12,9 +12,9 @@ use encoding::layout::write_state;
 use transition::close_on;
 ghost use mathlib.Core.Path.{_≡_};
 ghost use lib.ListN.{length};
-ghost use Rattle.process.specs.Start.{startRefusal, startBytes};
-ghost use Rattle.process.specs.Speak.{speakAnswer, speakOutput};
-ghost use Rattle.process.specs.Close.{closeRefusal, closeState};
+ghost use Rattle.part_format.specs.Start.{startRefusal, startBytes};
+ghost use Rattle.part_format.specs.Speak.{speakAnswer, speakOutput};
+ghost use Rattle.part_format.specs.Close.{closeRefusal, closeState};
 
 // Starts a process in round 1, open, with its proposal: 0, or refusal 10.
 pub fn start(process: u64, n: u64, t: u64, value: u32, state: &mut [u8]) -> u64

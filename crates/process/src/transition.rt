@@ -5,8 +5,9 @@ use encoding::layout::write_state;
 ghost use mathlib.Core.Path.{_≡_};
 ghost use lib.ListN.{length};
 ghost use Rattle.protocol.specs.Transition.{continues, decides};
-ghost use Rattle.encoding.specs.PartState.{stateFrom, stateBytes};
-ghost use Rattle.process.specs.Close.{RoundFits, stateAfter, closedOn};
+ghost use Rattle.part_format.specs.PartState.{stateFrom, stateBytes};
+ghost use Rattle.part_format.specs.Close.{stateAfter, closedOn};
+ghost use Rattle.process.specs.RoundFits.{RoundFits};
 ghost use Rattle.encoding.specs.Heard.{messagesAs};
 
 // Writes the state of a process that decides this value.

@@ -1,9 +1,9 @@
 // simulate: a ticket on standard input, its result or the line of its refusal on standard output (document 01, 'The result').
 // A thin program over the proved library. What is to be written is proved; that the two system calls read and write it no contract
-// can say: the gate compares what the program writes.
+// can say: the gate compares what the program writes. What goes wrong with them is told on standard error.
 ghost use mathlib.Core.Path.{_≡_};
 ghost use mathlib.Core.List.{_++_};
-ghost use Prim.Native.Nat.{_≤_};
+ghost use Prim.Native.Nat.{_<_, _≤_};
 ghost use lib.ListN.{length, take, drop};
 ghost use Rattle.formats.specs.ResultLine.{resultSize, refusalLine};
 ghost use Rattle.formats.specs.Running.{programWrites};
@@ -19,7 +19,9 @@ enum Input {
 }
 
 // Reads until the input ends or the buffer is full. One read that fails makes the whole input unreadable: half a ticket is none.
+// The buffer has room for more bytes than a ticket may have, so that a longer text is refused however long it is.
 fn read_input(buffer: &mut [u8]) -> Input
+    requires { ⌜ 4096 < length (now buffer) ⌝ }
     ensures { λ r. ⌜ Within r (length (now (buffer .entry))) ⌝ }
 {
     let mut at = 0;
@@ -37,11 +39,13 @@ fn read_input(buffer: &mut [u8]) -> Input
     Input::Text(at)
 }
 
-// Writes the front of a buffer.
+// Writes the front of a buffer, and says so on standard error where it cannot be written.
 fn write_front(buffer: &[u8], size: usize)
     requires { ⌜ size ≤ length (now buffer) ⌝ }
 {
-    io::write_all(1, &buffer[..size]);
+    if !io::write_all(1, &buffer[..size]) {
+        os::fail(b"simulate: standard output");
+    }
 }
 
 // The line of a refusal to the front of a buffer.
@@ -87,11 +91,24 @@ fn answer_front(buffer: &[u8], size: usize)
     answer(&buffer[..size]);
 }
 
-// One byte more than a ticket may have, so that a longer text is refused however long it is. A failed read writes nothing.
-fn main() {
+// Answers the ticket on standard input. A failed read writes nothing to standard output.
+fn answer_input() {
     let mut buffer = [0u8; 4097];
     let Input::Text(size) = read_input(&mut buffer) else {
+        os::fail(b"simulate: standard input");
         return;
     };
     answer_front(&buffer, size);
+}
+
+// A call with arguments is a mistake, as of somebody who names a file: standard input is not waited for.
+fn main() {
+    if os::arg_count() > 1 {
+        io::write_all(
+            2,
+            b"simulate: no arguments are taken. usage: simulate < TICKET > RESULT\n",
+        );
+        return;
+    }
+    answer_input();
 }

@@ -3,8 +3,8 @@ use borrow.Author.Needs.{needs}
 use native.Mathlib.Omega.{arith}
 use mathlib.Core.Path.{ap, sym, _∙_}
 use Rattle.encoding.specs.Heard.{heardAs}
-use Rattle.encoding.proofs.Opened.{Opened, opened}
-use Rattle.process.proofs.Operations.{close-refused, close-no-form, close-closed}
+use Rattle.part_format.proofs.Opened.{Opened, opened}
+use Rattle.part_format.proofs.Operations.{close-refused, close-no-form, close-closed}
 use Rattle.process.proofs.close.Statement.{statement}
 use Rattle.process.proofs.close.Tie as tie
 

@@ -1,7 +1,7 @@
 -- `process::speak` meets its contract: a law for each return. Assumes nothing.
 use borrow.Author.Needs.{needs}
 use native.Mathlib.Omega.{arith}
-use Rattle.encoding.proofs.Opened.{Opened, opened}
+use Rattle.part_format.proofs.Opened.{Opened, opened}
 use Rattle.process.proofs.Operations.{speak-refused, speak-silent, speak-short, speak-frames}
 use Rattle.process.proofs.speak.Statement.{statement}
 use Rattle.process.proofs.speak.Tie as tie

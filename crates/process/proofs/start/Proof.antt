@@ -4,10 +4,11 @@ use native.Mathlib.Omega.{arith}
 use mathlib.Core.Path.{_≡_, sym, _∙_}
 use mathlib.Core.Bool.{true}
 use borrow.Author.Tests.{not-true, not-false}
-use Rattle.encoding.specs.PartState.{identityValid}
-use Rattle.process.specs.Start.{startState}
-use Rattle.encoding.proofs.Valid.{identity-says}
-use Rattle.process.proofs.Operations.{start-identity, start-length, start-written}
+use Rattle.part_format.specs.PartState.{identityValid}
+use Rattle.part_format.specs.Start.{startState}
+use Rattle.part_format.proofs.Valid.{identity-says}
+use Rattle.part_format.proofs.Operations.{start-written}
+use Rattle.process.proofs.Operations.{start-identity, start-length}
 use Rattle.process.proofs.start.Statement.{statement}
 use Rattle.process.proofs.start.Tie as tie
 

@@ -2,8 +2,8 @@
 use borrow.Author.Needs.{needs}
 use native.Mathlib.Omega.{arith}
 use mathlib.Core.Path.{sym, _∙_}
-use Rattle.encoding.specs.PartState.{stateValid, stateFrom}
-use Rattle.encoding.proofs.Valid.{state-invalid, state-ended}
+use Rattle.part_format.specs.PartState.{stateValid, stateFrom}
+use Rattle.encoding.proofs.Checks.{state-invalid, state-ended}
 use Rattle.encoding.proofs.check.ended_refusal.Statement.{statement}
 use Rattle.encoding.proofs.check.ended_refusal.Tie as tie
 

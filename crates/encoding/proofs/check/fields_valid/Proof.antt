@@ -4,8 +4,9 @@ use native.Mathlib.Omega.{arith}
 use mathlib.Core.Path.{_≡_, sym, _∙_}
 use mathlib.Core.Bool.{true}
 use borrow.Author.Tests.{not-true, not-false}
-use Rattle.encoding.specs.PartState.{identityValid}
-use Rattle.encoding.proofs.Valid.{identity-says, fields-identity, fields-mark, fields-round}
+use Rattle.part_format.specs.PartState.{identityValid}
+use Rattle.part_format.proofs.Valid.{identity-says}
+use Rattle.encoding.proofs.Checks.{fields-identity, fields-mark, fields-round}
 use Rattle.encoding.proofs.check.fields_valid.Statement.{statement}
 use Rattle.encoding.proofs.check.fields_valid.Tie as tie
 

@@ -1,6 +1,6 @@
 -- `encoding::check::identity_valid` meets its contract: a law for each return. Assumes nothing.
 use native.Mathlib.Omega.{arith}
-use Rattle.encoding.proofs.Valid.{identity-fails, identity-last}
+use Rattle.encoding.proofs.Checks.{identity-fails, identity-last}
 use Rattle.encoding.proofs.check.identity_valid.Statement.{statement}
 use Rattle.encoding.proofs.check.identity_valid.Tie as tie
 

@@ -1,6 +1,6 @@
 -- `encoding::check::open_valid` meets its contract: a law for each return. Assumes nothing.
 use native.Mathlib.Omega.{arith}
-use Rattle.encoding.proofs.Opened.{open-fails, open-last}
+use Rattle.encoding.proofs.Checks.{open-fails, open-last}
 use Rattle.encoding.proofs.check.open_valid.Statement.{statement}
 use Rattle.encoding.proofs.check.open_valid.Tie as tie
 

@@ -1,6 +1,6 @@
 -- `encoding::check::round_valid` meets its contract: a law for each return. Assumes nothing.
 use native.Mathlib.Omega.{arith}
-use Rattle.encoding.proofs.Valid.{over-other, over-last, round-zero, round-late, round-own}
+use Rattle.encoding.proofs.Checks.{over-other, over-last, round-zero, round-late, round-own}
 use Rattle.encoding.proofs.check.round_valid.Statement.{statement}
 use Rattle.encoding.proofs.check.round_valid.Tie as tie
 

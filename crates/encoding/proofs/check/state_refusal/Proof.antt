@@ -2,7 +2,7 @@
 use borrow.Author.Needs.{needs}
 use native.Mathlib.Omega.{arith}
 use mathlib.Core.Path.{_∙_}
-use Rattle.encoding.proofs.Valid.{state-length, state-invalid, open-marked, state-open}
+use Rattle.encoding.proofs.Checks.{state-length, state-invalid, open-marked, state-open}
 use Rattle.encoding.proofs.check.state_refusal.Statement.{statement}
 use Rattle.encoding.proofs.check.state_refusal.Tie as tie
 

@@ -5,7 +5,7 @@ use mathlib.Core.Path.{_≡_, refl, _∙_}
 use mathlib.Core.List.{[], _∷_}
 use lib.ListN.{length, length-set}
 use Rattle.general.specs.BigEndian.{bytesOf}
-use Rattle.encoding.specs.PartState.{stateBytes}
+use Rattle.part_format.specs.PartState.{stateBytes}
 use Rattle.general.proofs.Overwrite.{back-then-front}
 use Rattle.encoding.proofs.layout.write_state.Statement.{statement}
 use Rattle.encoding.proofs.layout.write_state.Tie as tie

@@ -1,0 +1,10 @@
+pub mod PartState
+pub mod Frame
+pub mod Start
+pub mod Speak
+pub mod Close
+pub mod Leaves
+pub mod Case
+pub mod PartCases
+pub mod Refused
+pub mod Example

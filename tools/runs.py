@@ -1,0 +1,457 @@
+"""Tickets and results as tools/draw-run, tools/explain-run and tools/show-test look at them.
+
+What a ticket is answered is never worked out here: it is read off what `simulate` writes. What is worked out is how the
+run came there (who sent what to whom, who heard it, who held which value), from the ticket's failure lines and from the
+result, which says who had decided or crashed when; and `contradictions` says where the two do not add up. Of a refusal,
+`reasons` says which of the things that its text names is the case.
+"""
+
+from __future__ import annotations
+
+import functools
+import os
+import re
+import subprocess
+from dataclasses import dataclass, field
+
+HERE = os.path.dirname(os.path.abspath(__file__))
+# In the repository, and where `make install` puts things.
+HEADERS = ["../include/agreement.h", "../../include/agreement.h"]
+PROGRAMS = ["../target/bin/simulate", "../../bin/simulate"]
+
+HEADER, PROPOSAL, FAILURE, END = 0x01, 0x02, 0x03, 0x04
+PROCESS, LAST, REFUSAL = 0x11, 0x12, 0x1F
+LENGTHS = {HEADER: 3, PROPOSAL: 6, FAILURE: 13, END: 1, REFUSAL: 4}  # in bytes; those of a result are the header's
+RESULT_LINES = {PROCESS: "UC_PROCESS_LINE_BYTES", LAST: "UC_LAST_LINE_BYTES"}
+DECIDED, CRASHED = 1, 2
+BEFORE_SENDING, DURING_DATA, DURING_COMMITS = 0, 1, 2
+DATA, COMMIT = "data", "commit"
+MOST_BYTES, MOST_PROCESSES = 4096, 64
+
+
+class Unusable(Exception):
+    """What cannot be shown, and why: no such file, no program, no ticket with its result."""
+
+
+def beside(names, what):
+    """The first of these files, by their place beside this one."""
+    for name in names:
+        path = os.path.normpath(os.path.join(HERE, name))
+        if os.path.exists(path):
+            return path
+    raise Unusable(f"{what} is missing: {os.path.normpath(os.path.join(HERE, names[0]))}")
+
+
+@functools.lru_cache(None)
+def header_text():
+    with open(beside(HEADERS, "the header"), encoding="utf-8") as file:
+        return file.read()
+
+
+def refusal_texts():
+    """The header's table of refusals, the only one there is."""
+    return {int(number): text for number, text in re.findall(r'^\s+X\((\d+), "([^"]*)"\)', header_text(), re.M)}
+
+
+def header_number(name):
+    """A number that the header defines."""
+    found = re.search(rf"^#define {name} (\d+)$", header_text(), re.M)
+    if not found:
+        raise Unusable(f"the header does not define {name}")
+    return int(found.group(1))
+
+
+def length_of(kind):
+    """How many bytes a line of that kind has: two digits each, and the 0A that the header counts too."""
+    return (header_number(RESULT_LINES[kind]) - 1) // 2 if kind in RESULT_LINES else LENGTHS[kind]
+
+
+def largest_result():
+    return header_number(RESULT_LINES[PROCESS]) * MOST_PROCESSES + header_number(RESULT_LINES[LAST])
+
+
+def number(data):
+    return int.from_bytes(data, "big")
+
+
+def value_text(value):
+    """A value as a ticket writes it."""
+    return f"{value:08X}"
+
+
+# ---- tickets, results and where they come from
+
+
+def read_ticket(path):
+    try:
+        with open(path, "rb") as file:
+            return file.read()
+    except OSError as error:
+        raise Unusable(f"{path}: {error.strerror}") from None
+
+
+def simulated(text, program=None):
+    """What `simulate` writes for a ticket."""
+    program = program or beside(PROGRAMS, "the program (`make` builds it)")
+    try:
+        ran = subprocess.run([program], input=text, capture_output=True, check=False)
+    except OSError as error:
+        raise Unusable(f"{program}: {error.strerror}") from None
+    if not ran.stdout:
+        raise Unusable(f"{program} wrote nothing. {ran.stderr.decode(errors='replace').strip()}")
+    return ran.stdout
+
+
+def lines_of(text):
+    """A text's lines without their 0A, and whether the last one has it."""
+    pieces = text.split(b"\n")
+    return (pieces[:-1], True) if pieces[-1] == b"" else (pieces, False)
+
+
+def decoded(line):
+    """The bytes that a line's digits make; None if it is not a line."""
+    if len(line) % 2 or not re.fullmatch(rb"[0-9A-F]+", line):
+        return None
+    return bytes.fromhex(line.decode())
+
+
+def expected(lines, index, kind):
+    """The bytes of a line that must be there, of that kind."""
+    data = decoded(lines[index]) if index < len(lines) else None
+    if data is None or data[0] != kind or len(data) != length_of(kind):
+        raise Unusable(f"line {index + 1} is not a line {kind:02X} of {length_of(kind)} bytes")
+    return data
+
+
+# ---- an accepted ticket's run
+
+
+@dataclass
+class Failure:
+    round: int
+    step: int
+    reached: int
+    commits: int
+
+    def reaches(self, process):
+        return bool(self.reached >> (process.id - 1) & 1)
+
+
+@dataclass
+class Process:
+    id: int
+    proposal: int
+    failure: Failure | None = None
+    end: int = 0
+    round: int = 0  # of deciding or crashing
+    value: int = 0  # decided
+
+    def begins(self, round_number):
+        """Up and undecided as that round begins."""
+        return self.round >= round_number
+
+    def crashes_in(self, round_number):
+        return self.end == CRASHED and self.round == round_number
+
+    def decides_in(self, round_number):
+        return self.end == DECIDED and self.round == round_number
+
+    def hears_in(self, round_number):
+        return self.begins(round_number) and not self.crashes_in(round_number)
+
+    @property
+    def idle(self):
+        """A failure line whose process had decided before."""
+        return self.failure if self.end == DECIDED else None
+
+
+@dataclass
+class Message:
+    kind: str
+    sender: Process
+    recipient: Process
+    heard: bool
+
+
+@dataclass
+class Round:
+    number: int
+    coordinator: Process
+    value: int  # that the coordinator holds
+    messages: list  # in sending order
+    held: dict  # by process, at the round's end
+
+    def sent(self, kind):
+        return [message for message in self.messages if message.kind == kind]
+
+    def heard(self, kind):
+        return {message.recipient.id for message in self.sent(kind) if message.heard}
+
+    @property
+    def silent(self):
+        return not self.coordinator.begins(self.number)
+
+
+@dataclass
+class Run:
+    n: int
+    t: int
+    processes: list
+    last: int  # the run's rounds
+    crashes: int
+    speakers: int
+    data: int
+    commits: int
+    rounds: list = field(default_factory=list)
+
+
+@dataclass
+class Refused:
+    number: int
+    line: int
+    text: str
+
+
+def read_result(ticket, result):
+    """What a ticket was answered: a Run with its rounds played, or a Refused."""
+    said, _ = lines_of(result)
+    first = decoded(said[0]) if said else None
+    if first and first[0] == REFUSAL and len(first) == LENGTHS[REFUSAL]:
+        text = refusal_texts().get(first[1], "no refusal of this version")
+        return Refused(first[1], number(first[2:]), text)
+    run = read_run(lines_of(ticket)[0], said)
+    play(run)
+    return run
+
+
+def read_run(ticket, result):
+    """An accepted ticket's run, from its lines and its result's."""
+    n, t = expected(ticket, 0, HEADER)[1:]
+    processes = [Process(p, number(expected(ticket, p, PROPOSAL)[2:])) for p in range(1, n + 1)]
+    for index in range(n + 1, len(ticket) - 1):
+        data = expected(ticket, index, FAILURE)
+        if not 1 <= data[1] <= n:
+            raise Unusable(f"line {index + 1} is of no process")
+        processes[data[1] - 1].failure = Failure(data[2], data[3], number(data[4:12]), data[12])
+    for process in processes:
+        data = expected(result, process.id - 1, PROCESS)
+        process.end, process.round, process.value = data[2], data[3], number(data[4:8])
+        failure = process.failure
+        if process.end == CRASHED and (failure is None or failure.round != process.round):
+            raise Unusable(f"no failure line lets process {process.id} crash in round {process.round}")
+    last = expected(result, n, LAST)
+    return Run(n, t, processes, last[1], last[2], last[3], number(last[4:6]), number(last[6:8]))
+
+
+def recipients(run, coordinator, round_number):
+    """To whom the coordinator sends data, and to whom commits, each in sending order."""
+    if not coordinator.begins(round_number):
+        return [], []
+    above = run.processes[round_number:]
+    failure = coordinator.failure
+    if not coordinator.crashes_in(round_number):
+        return above, above[::-1]
+    if failure.step == BEFORE_SENDING:
+        return [], []
+    if failure.step == DURING_DATA:
+        return [process for process in above if failure.reaches(process)], []
+    return above, above[::-1][: failure.commits]
+
+
+def play(run):
+    """Fills in the run's rounds."""
+    held = {process.id: process.proposal for process in run.processes}
+    for round_number in range(1, run.last + 1):
+        coordinator = run.processes[round_number - 1]
+        value = held[coordinator.id]
+        messages = [
+            Message(kind, coordinator, recipient, recipient.hears_in(round_number))
+            for kind, those in zip((DATA, COMMIT), recipients(run, coordinator, round_number))
+            for recipient in those
+        ]
+        for message in messages:
+            if message.heard:
+                held[message.recipient.id] = value
+        run.rounds.append(Round(round_number, coordinator, value, messages, dict(held)))
+
+
+def contradictions(run):
+    """Where the run, as it was played, and the result do not add up."""
+    wrong = []
+    data = sum(len(played.sent(DATA)) for played in run.rounds)
+    commits = sum(len(played.sent(COMMIT)) for played in run.rounds)
+    if (data, commits) != (run.data, run.commits):
+        wrong.append(f"{data} data and {commits} commits are sent, but the result counts {run.data} and {run.commits}")
+    speakers = sum(not played.silent for played in run.rounds)
+    if speakers != run.speakers:
+        wrong.append(f"{speakers} coordinators speak, but the result counts {run.speakers}")
+    crashes = sum(process.end == CRASHED for process in run.processes)
+    if crashes != run.crashes:
+        wrong.append(f"{crashes} processes crash, but the result's f is {run.crashes}")
+    for played in run.rounds:
+        deciders = played.heard(COMMIT)
+        if played.coordinator.hears_in(played.number):
+            deciders = deciders | {played.coordinator.id}
+        said = {process.id for process in run.processes if process.decides_in(played.number)}
+        if deciders != said:
+            wrong.append(f"round {played.number}: {names(deciders)} decide, but the result says {names(said)}")
+    for process in run.processes:
+        held = run.rounds[-1].held[process.id] if run.rounds else process.proposal
+        if process.end == DECIDED and process.value != held:
+            wrong.append(f"process {process.id} decides {value_text(process.value)}, but holds {value_text(held)}")
+    return wrong
+
+
+# ---- what is wrong with a refused ticket
+
+
+def reasons(ticket, refused):
+    """Which of the things that a refusal's text names is the case: sentences, at least one."""
+    if refused.number == 1:
+        return [f"The ticket has {len(ticket):,} bytes."]
+    lines, closed = lines_of(ticket)
+    if refused.line < 1 or refused.line > len(lines) + 1:
+        return ["No line is wrong."]
+    if refused.line == len(lines) + 1:
+        return [f"The ticket is over after {counted(len(lines), 'line')}, and none of them is the closing 04."]
+    line = lines[refused.line - 1]
+    if refused.number == 2:
+        return line_reasons(line, closed or refused.line < len(lines))
+    data = decoded(line)
+    n, t = (decoded(lines[0]) or b"\0\0\0")[1:3] if refused.line > 1 else (0, 0)
+    before = [decoded(earlier) for earlier in lines[: refused.line - 1]]
+    found = {
+        3: lambda: kind_reasons(data, before, n),
+        4: lambda: limit_reasons(data[1], data[2]),
+        5: lambda: [f"It is of process {data[1]}; the next one is process {refused.line - 1}."],
+        6: lambda: [f"t is {t}, and this is failure line {refused.line - 1 - n}."],
+        7: lambda: place_reasons(data, before, n, t),
+        8: lambda: step_reasons(data, n),
+    }.get(refused.number, lambda: [])()
+    return found or ["Which of these it is, this tool cannot tell."]
+
+
+def line_reasons(line, closed):
+    found = []
+    if not line:
+        found.append("The line is empty.")
+    other = sorted({byte for byte in line if byte not in b"0123456789ABCDEF"})
+    if other:
+        found.append(f"It has other bytes than digits 0-9 and A-F: {', '.join(map(byte_text, other[:8]))}.")
+    elif len(line) % 2:
+        found.append(f"It has {counted(len(line), 'digit')}, which is an odd count.")
+    if not closed:
+        found.append("It is the last line, and no byte 0A closes it.")
+    return found
+
+
+def byte_text(byte):
+    known = {0x20: "a space", 0x0D: "a carriage return (0D)", 0x09: "a tab (09)"}
+    return known.get(byte) or (f"'{chr(byte)}'" if 0x20 < byte < 0x7F else f"byte {byte:02X}")
+
+
+def kind_reasons(data, before, n):
+    """The kinds that may stand here, or the length that the kind has."""
+    if before and before[-1][0] == END:
+        return ["It stands after the closing 04."]
+    if not before:
+        allowed = [HEADER]
+    elif len(before) <= n:
+        allowed = [PROPOSAL]
+    else:
+        allowed = [FAILURE, END]
+    if data[0] not in allowed:
+        return [f"It is of kind {data[0]:02X}; here stands {' or '.join(f'{kind:02X}' for kind in allowed)}."]
+    return [f"It has {counted(len(data), 'byte')}; a line {data[0]:02X} has {LENGTHS[data[0]]}."]
+
+
+def limit_reasons(n, t):
+    found = []
+    if not 1 <= n <= MOST_PROCESSES:
+        found.append(f"n is {n}, which is not within 1 to {MOST_PROCESSES}.")
+    if t >= n:
+        found.append(f"t is {t}, which is not below n = {n}.")
+    return found
+
+
+def place_reasons(data, before, n, t):
+    process, round_number, step = data[1:4]
+    found = []
+    if not 1 <= process <= n:
+        found.append(f"Process {process} is not within 1 to {n}.")
+    if before and before[-1][0] == FAILURE and process <= before[-1][1]:
+        found.append(f"Process {process} stands after process {before[-1][1]}; processes rise.")
+    if not 1 <= round_number <= t + 1:
+        found.append(f"Round {round_number} is not within 1 to t + 1 = {t + 1}.")
+    if step > DURING_COMMITS:
+        found.append(f"Step {step:02X} is above 02.")
+    return found
+
+
+def step_reasons(data, n):
+    process, round_number, step, reached, count = data[1], data[2], data[3], number(data[4:12]), data[12]
+    found = []
+    if step != BEFORE_SENDING and round_number != process:
+        found.append(f"Step {step:02X} stands in round {round_number}; process {process} sends in round {process} only.")
+    if step == DURING_DATA:
+        wrong = [j for j in range(1, 65) if reached >> (j - 1) & 1 and not process < j <= n]
+        if wrong:
+            found.append(f"The set names {names(wrong)}; a step 01 reaches processes above {process} and at most {n}.")
+    elif reached:
+        found.append(f"The set is not 0; step {step:02X} has none.")
+    if step == DURING_COMMITS and count > n - process:
+        found.append(f"{count} commits are more than the {n - process} processes above {process}.")
+    elif step != DURING_COMMITS and count:
+        found.append(f"The count is {count}; step {step:02X} has none.")
+    return found
+
+
+def fields(data):
+    """A line in words, field by field."""
+    known = {
+        HEADER: lambda: f"header: n {data[1]}, t {data[2]}",
+        PROPOSAL: lambda: f"proposal: process {data[1]}, value {value_text(number(data[2:]))}",
+        FAILURE: lambda: f"failure: process {data[1]}, round {data[2]}, step {data[3]:02X}, "
+        f"set {number(data[4:12]):016X}, count {data[12]}",
+        END: lambda: "the end",
+    }
+    if data[0] in known and len(data) == LENGTHS[data[0]]:
+        return known[data[0]]()
+    return f"kind {data[0]:02X}, {counted(len(data), 'byte')}"
+
+
+def shown(line, most=72):
+    """A line of any bytes, for the eye."""
+    text = "".join(chr(byte) if 0x20 <= byte < 0x7F else f"\\x{byte:02X}" for byte in line[: most + 1])
+    return text if len(line) <= most else text[:most] + ".."
+
+
+# ---- words
+
+
+def counted(count, noun):
+    return f"{count} {noun}" + ("" if count == 1 else "es" if noun.endswith("s") else "s")
+
+
+def names(processes):
+    """Processes in words, neighbours joined: 'process 4', 'processes 2, 5 to 9'."""
+    ids = sorted(process if isinstance(process, int) else process.id for process in processes)
+    if not ids:
+        return "no process"
+    parts, start = [], ids[0]
+    for this, after in zip(ids, ids[1:] + [None]):
+        if after == this + 1:
+            continue
+        parts.append(f"{start}" if start == this else f"{start}, {this}" if this == start + 1 else f"{start} to {this}")
+        start = after
+    return ("process " if len(ids) == 1 else "processes ") + ", ".join(parts)
+
+
+def failure_text(run, process):
+    """What a failure line says."""
+    failure, above = process.failure, run.n - process.id
+    return f"crashes in round {failure.round}, " + {
+        BEFORE_SENDING: "before it sends anything",
+        DURING_DATA: "while sending data: " + names(p for p in run.processes if failure.reaches(p)) + " got it",
+        DURING_COMMITS: f"while sending commits, after {failure.commits} of {above}",
+    }[failure.step]
