@@ -1,6 +1,6 @@
 -- Laws of big-endian numbers: one byte more, the bytes of two and of four written out, the number of four bytes, how large a number so many bytes hold, and that a number comes back from its bytes. Assumes nothing.
 use mathlib.Core.List.{List, [], _∷_, _++_, append-nil}
-use mathlib.Core.Path.{_≡_, refl, ap, _∙_}
+use mathlib.Core.Path.{_≡_, refl, sym, ap, _∙_}
 use Prim.Native.Nat.{ℕ, zero, suc, _+_, _*_, _/_, _%_, _^_, _<_}
 use native.Mathlib.Nat.{zero-add, add-zero, pow-suc, pow-zero, mul-one, mul-assoc, mul-comm}
 use native.Mathlib.Omega.{arith}
@@ -75,3 +75,14 @@ from-number (b ∷ bs) before high h e =
 pub bytes-number : (b : List ℕ) → Bytes b → bytesOf (length b) (number b) ≡ b
 unfolding number bytesOf
 bytes-number b h = rw zero-add at (from-number b [] 0 h refl)
+
+-- What stands above so many bytes plays no part in them.
+pub bytes-low : (width high low : ℕ) → bytesOf width (high * 256 ^ width + low) ≡ bytesOf width low
+unfolding bytesOf
+bytes-low zero high low = refl
+bytes-low (suc width) high low =
+    let above : ℕ = high * 256 ^ width in
+    let whole : high * 256 ^ suc width ≡ above * 256 = ap (λ (p : ℕ). high * p) (pow-suc 256 width) ∙ sym (mul-assoc high (256 ^ width) 256) in
+    let rest : (above * 256 + low) / 256 ≡ above + low / 256 = omega arith in
+    let last : (above * 256 + low) % 256 ≡ low % 256 = omega arith in
+    rw (whole, rest, last) (ap (λ (l : List ℕ). l ++ (low % 256 ∷ [])) (bytes-low width high (low / 256)))
