@@ -94,8 +94,13 @@ module _ (n count size head tail : ℕ) (six : size ≡ 6) where
     unfolding proposalSays
     proposal-next h answer e =
         let own : tail / 4294967296 % 256 ≡ suc count = omega arith in
-        rw (six, of-kind 2 6 6 head tail (tail / 1099511627776 % 256) (proposal-kind head tail) refl kind, proposal-station head tail,
-          eq-eqb (tail / 4294967296 % 256) (suc count) own, proposal-value head tail) e
+        rw (
+          six,
+          of-kind 2 6 6 head tail (tail / 1099511627776 % 256) (proposal-kind head tail) refl kind,
+          proposal-station head tail,
+          eq-eqb (tail / 4294967296 % 256) (suc count) own,
+          proposal-value head tail,
+        ) e
 
 -- A failure line whose kind and length are right.
 module _ (n t lines last : ℕ) (l : FailureLine) where

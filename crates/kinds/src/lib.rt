@@ -12,12 +12,19 @@ ghost use Rattle.kinds.specs.Places.{HasPlaces};
 
 // The kinds of a ticket's lines, and the bytes that each has.
 const HEADER: u64 = 1;
+
 const HEADER_SIZE: usize = 3;
+
 const PROPOSAL: u64 = 2;
+
 const PROPOSAL_SIZE: usize = 6;
+
 const FAILURE: u64 = 3;
+
 const FAILURE_SIZE: usize = 13;
+
 const END: u64 = 4;
+
 const END_SIZE: usize = 1;
 
 // 01, n, t.

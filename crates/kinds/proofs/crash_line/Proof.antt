@@ -18,12 +18,12 @@ returns-2 : tie.Need-returns-2
 returns-2 c = sym (crash-unplaced _ _ _ _ _ (omega arith) _ (c .before .before .places-crash .ensures) (c .if2 .taken))
 
 suits-step-requires : tie.Need-suits-step-requires
-suits-step-requires c κs = 
+suits-step-requires c κs =
     let placed = crash-placed _ _ _ _ (sym (c .before .before .places-crash .ensures) ∙ not-false _ (c .if2 .left)) in
     omega arith
 
 returns-3 : tie.Need-returns-3
-returns-3 c = 
+returns-3 c =
     let passed = c .before .before in
     sym (crash-unsuited _ _ _ _ _ (omega arith) _ (passed .before .before .places-crash .ensures) (passed .if2 .left) _ (c .before .suits-step .ensures) (c .if3 .taken))
 
@@ -31,7 +31,7 @@ add-counted : tie.Need-add-counted
 add-counted c = search needs
 
 returns-4 : tie.Need-returns-4
-returns-4 c = 
+returns-4 c =
     let passed = c .before .before in
     crash-next _ _ _ _ _ (omega arith) _ (passed .before .before .places-crash .ensures) (passed .if2 .left) _ (c .before .suits-step .ensures) (c .if3 .left)
 
