@@ -41,7 +41,7 @@ unfolding afterProposal faultOf
 after-proposal x count none true e =
     let sized : length (x .pattern) ≡ x .processes = rw none (length-replicate (x .processes) correct) in
     rw e
-    (bothFailures
+    (bothFailures {x = x} {y = x}
     (record {
       processes = refl;
       resilience = refl;
@@ -56,7 +56,10 @@ after-proposal x count none false e = rw e (bothProposals none)
 -- The end is no failure line.
 kinds-apart : (b : List ℕ) → isKind 4 1 b ≡ true → isKind 3 13 b ≡ true → ⊥
 unfolding isKind
-kinds-apart b end crash = omega (arith, eqb-true _ _ (both (eqb (getD b 0 0) 4) _ end .0), eqb-true _ _ (both (eqb (getD b 0 0) 3) _ crash .0))
+kinds-apart b end crash =
+    let four : getD b 0 0 ≡ 4 = eqb-true _ _ (both (eqb (getD b 0 0) 4) _ end .0) in
+    let three : getD b 0 0 ≡ 3 = eqb-true _ _ (both (eqb (getD b 0 0) 3) _ crash .0) in
+    omega arith
 
 -- A line of the commit step is accepted among the failure lines alone.
 no-header : (b : List ℕ) → CommitLine b → {u : Stage} → HeaderTaken b u → ⊥
@@ -95,20 +98,18 @@ module _ {x y : Instance} {last : ℕ} (so-far : PairedSoFar x y last) where
 
 -- The same line in both.
 same-step : (s s′ : Stage) (b : List ℕ) (u u′ : Stage) → Alongside s s′ → accept s b ≡ next u → accept s′ b ≡ next u′ → Alongside u u′
-unfolding accept store lineSays
+unfolding accept store lineSays unproposed withProposal
 same-step s s′ b u u′ bothHeader e e′ =
     let alike : u ≡ u′ = cc in
     rw (← alike) (by-header (header-taken b u e))
   where
     by-header : {v : Stage} → HeaderTaken b v → Alongside v v
-    unfolding unproposed
     by-header (takenHeader kind limits) = bothProposals refl
 same-step s s′ b u u′ (bothProposals {count} {x} none) e e′ =
     let alike : u ≡ u′ = cc in
     rw (← alike) (by-proposal (taken x (Proposals count) b u e))
   where
     by-proposal : {v : Stage} → Taken x b (Proposals count) v → Alongside v v
-    unfolding withProposal
     by-proposal (takenProposal kind) = after-proposal (withProposal x _) count none _ refl
 same-step s s′ b u u′ (bothFailures {x} {y} {lines} {lines′} {last} {last′} so-far) e e′ =
     same-failure so-far (taken x (Failures lines last) b u e) (taken y (Failures lines′ last′) b u′ e′)
@@ -119,7 +120,7 @@ commit-step : (s s′ : Stage) (b c : List ℕ) (u u′ : Stage) → CommitLine 
     → Alongside s s′ → accept s b ≡ next u → accept s′ c ≡ next u′ → Alongside u u′
 unfolding accept store lineSays
 commit-step s s′ b c u u′ line line′ station count bothHeader e e′ = absurd (no-header b line (header-taken b u e))
-commit-step s s′ b c u u′ line line′ station count (bothProposals {k} {x} none) e e′ = absurd (no-proposal x b line (taken x (Proposals k) b u e))
+commit-step s s′ b c u u′ line line′ station count (bothProposals {count = k} {x} none) e e′ = absurd (no-proposal x b line (taken x (Proposals k) b u e))
 commit-step s s′ b c u u′ line line′ station count (bothFailures {x} {y} {lines} {lines′} {last} {last′} so-far) e e′ =
     more-commits so-far line line′ station count (taken x (Failures lines last) b u e) (taken y (Failures lines′ last′) c u′ e′)
 commit-step s s′ b c u u′ line line′ station count (bothEnded paired) e e′ = absurd (refuse-next 3 u e)
@@ -127,7 +128,7 @@ commit-step s s′ b c u u′ line line′ station count (bothEnded paired) e e�
 missing-step : (s s′ : Stage) (b : List ℕ) (u : Stage) → CommitLine b → Alongside s s′ → accept s b ≡ next u → Alongside u s′
 unfolding accept store lineSays
 missing-step s s′ b u line bothHeader e = absurd (no-header b line (header-taken b u e))
-missing-step s s′ b u line (bothProposals {k} {x} none) e = absurd (no-proposal x b line (taken x (Proposals k) b u e))
+missing-step s s′ b u line (bothProposals {count = k} {x} none) e = absurd (no-proposal x b line (taken x (Proposals k) b u e))
 missing-step s s′ b u line (bothFailures {x} {y} {lines} {lines′} {last} {last′} so-far) e = missing-commits so-far line (taken x (Failures lines last) b u e)
 missing-step s s′ b u line (bothEnded paired) e = absurd (refuse-next 3 u e)
 
