@@ -3,115 +3,140 @@ use mathlib.Core.List.{List, [], _∷_, _++_}
 use mathlib.Core.Path.{_≡_, refl, sym, _∙_}
 use mathlib.Core.Bool.{Bool, true, false, true≢false, cond}
 use Prim.Native.Nat.{ℕ, suc, _-_, _≤_}
+use native.Mathlib.Omega.{arith}
+use borrow.Author.Tests.{eqb-true}
 use lib.Dec.{eqb, ltb}
-use lib.ListN.{length, getD, drop, length-replicate}
+use lib.ListN.{length, getD, replicate, length-replicate}
 use Rattle.general.specs.BigEndian.{number}
+use Rattle.general.proofs.Tests.{both}
 use Rattle.general.proofs.Lists.{getD-repeated}
 use Rattle.protocol.specs.Instance.{Instance, correct, faultOf, withinLimits}
 use Rattle.protocol.specs.Consensus.{same, moreCommits, missing, Paired}
 use Rattle.formats.specs.Line.{Line, bytes, noLine}
 use Rattle.formats.specs.Step.{next}
 use Rattle.formats.specs.Reading.{Reading, accepted, refused, readFrom}
-use Rattle.formats.specs.Accept.{Stage, header, proposals, failures, ended, isKind, acceptHeader, afterProposal, acceptProposal, failureLine, accept}
+use Rattle.formats.specs.Says.{isKind, afterProposal, failureLine, lineSays}
+use Rattle.formats.specs.Accept.{Stage, header, body, unproposed, withProposal, store, accept}
+use Rattle.formats.specs.declared.Place.the-variants.{Proposals, Failures, Ended}
 use Rattle.formats.specs.Ticket.{ticketLimit, atEnd, readTicket}
-use Rattle.formats.proofs.CrashAllowed.{crash-placed}
-use Rattle.formats.proofs.Passing.{refused-accepted, refuse-next, passes-if, proceeds}
+use Rattle.formats.proofs.CrashAllowed.{Placed, crash-placed}
+use Rattle.formats.proofs.Passing.{refused-accepted, refuse-next, proceeds}
+use Rattle.formats.proofs.LineCases.{CrashPasses}
+use Rattle.formats.proofs.Taken.{HeaderTaken, takenHeader, header-taken, Taken, takenProposal, takenCrash, takenEnd, taken}
 use Rattle.demands.specs.PairedTexts.{CommitLine, PairedLines, noLines, sameLine, countNoLower, missingLine, PairedTexts}
-use Rattle.demands.proofs.AcceptedLine.{Taken, takenEnd, takenCrash, taken, commit-at, not-the-end, stated-fault}
+use Rattle.demands.proofs.AcceptedLine.{not-a-header, not-a-proposal, not-the-end, stated-fault}
 use Rattle.demands.proofs.PairedFaults.{PairedSoFar, so-far-paired, so-far-both, so-far-first}
 
 -- The stages of both texts.
 data Alongside : Stage → Stage → Type 0 where
   bothHeader : Alongside header header
-  bothProposals : {n t : ℕ} {values : List ℕ} → Alongside (proposals n t values) (proposals n t values)
-  bothFailures : {x y : Instance} {lines lines′ last last′ : ℕ} → PairedSoFar x y last → Alongside (failures x lines last) (failures y lines′ last′)
-  bothEnded : {x y : Instance} → Paired x y → Alongside (ended x) (ended y)
+  bothProposals : {count : ℕ} {x : Instance} → x .pattern ≡ replicate (x .processes) correct → Alongside (body (Proposals count) x) (body (Proposals count) x)
+  bothFailures : {x y : Instance} {lines lines′ last last′ : ℕ} → PairedSoFar x y last → Alongside (body (Failures lines last) x) (body (Failures lines′ last′) y)
+  bothEnded : {x y : Instance} → Paired x y → Alongside (body Ended x) (body Ended y)
 
 -- After the proposals every process is correct in both.
-after-proposal : (n t : ℕ) (values : List ℕ) (test : Bool) → eqb (length values) n ≡ test → Alongside (afterProposal n t values) (afterProposal n t values)
+after-proposal : (x : Instance) (count : ℕ) → x .pattern ≡ replicate (x .processes) correct → (whole : Bool) → eqb (suc count) (x .processes) ≡ whole
+    → Alongside (body (afterProposal (x .processes) count) x) (body (afterProposal (x .processes) count) x)
 unfolding afterProposal faultOf
-after-proposal n t values true e =
+after-proposal x count none true e =
+    let sized : length (x .pattern) ≡ x .processes = rw none (length-replicate (x .processes) correct) in
     rw e
-    (bothFailures
+    (bothFailures {x = x} {y = x}
     (record {
       processes = refl;
       resilience = refl;
       proposals = refl;
-      sized = length-replicate n correct;
-      sized′ = length-replicate n correct;
+      sized = sized;
+      sized′ = sized;
       lines = λ p first. same;
-      later = λ p h. getD-repeated n (p - 1) correct;
+      later = λ p h. rw none (getD-repeated (x .processes) (p - 1) correct);
     }))
-after-proposal n t values false e = rw e bothProposals
+after-proposal x count none false e = rw e (bothProposals none)
 
-module _ (x y : Instance) (last : ℕ) (so-far : PairedSoFar x y last) where
+-- The end is no failure line.
+kinds-apart : (b : List ℕ) → isKind 4 1 b ≡ true → isKind 3 13 b ≡ true → ⊥
+unfolding isKind
+kinds-apart b end crash =
+    let four : getD b 0 0 ≡ 4 = eqb-true _ _ (both (eqb (getD b 0 0) 4) _ end .0) in
+    let three : getD b 0 0 ≡ 3 = eqb-true _ _ (both (eqb (getD b 0 0) 3) _ crash .0) in
+    omega arith
+
+-- A line of the commit step is accepted among the failure lines alone.
+no-header : (b : List ℕ) → CommitLine b → {u : Stage} → HeaderTaken b u → ⊥
+no-header b line (takenHeader kind limits) = not-a-header b line kind
+
+no-proposal : (x : Instance) (b : List ℕ) → CommitLine b → {count : ℕ} {u : Stage} → Taken x b (Proposals count) u → ⊥
+no-proposal x b line (takenProposal kind) = not-a-proposal b line kind
+
+module _ {x y : Instance} {last : ℕ} (so-far : PairedSoFar x y last) where
+  -- Where a failure line of the first that is accepted stands.
+  placed-here : {lines : ℕ} {b : List ℕ} → CrashPasses (x .processes) (x .resilience) lines last b → Placed (x .processes) (x .resilience) last (failureLine b)
+  placed-here {b = b} passes = crash-placed (x .processes) (x .resilience) last (failureLine b) (passes .placed)
+
   -- A line among the failure lines: the same in both, one with more commits in the second, or one that is missing there.
-  same-failure : {last′ : ℕ} {b : List ℕ} {u u′ : Stage} → Taken x last b u → Taken y last′ b u′ → Alongside u u′
+  same-failure : {lines lines′ last′ : ℕ} {b : List ℕ} {u u′ : Stage} → Taken x b (Failures lines last) u → Taken y b (Failures lines′ last′) u′ → Alongside u u′
   same-failure (takenEnd kind) (takenEnd kind′) = bothEnded (so-far-paired x y last so-far)
-  same-failure (takenEnd kind) (takenCrash kind′ _ _) = absurd (true≢false (sym kind ∙ kind′))
-  same-failure (takenCrash kind _ _) (takenEnd kind′) = absurd (true≢false (sym kind′ ∙ kind))
-  same-failure {b = b} (takenCrash kind placed suits) (takenCrash kind′ placed′ suits′) =
-      bothFailures (so-far-both x y last so-far (failureLine b) (crash-placed (x .processes) (x .resilience) last (failureLine b) placed) (failureLine b) refl same)
+  same-failure {b = b} (takenEnd kind) (takenCrash passes) = absurd (kinds-apart b kind (passes .kind))
+  same-failure {b = b} (takenCrash passes) (takenEnd kind) = absurd (kinds-apart b kind (passes .kind))
+  same-failure {b = b} (takenCrash passes) (takenCrash passes′) = bothFailures (so-far-both x y last so-far (failureLine b) (placed-here passes) (failureLine b) refl same)
 
-  more-commits : {last′ : ℕ} {b c : List ℕ} {u u′ : Stage} → CommitLine b → CommitLine c → getD b 1 0 ≡ getD c 1 0 → getD b 12 0 ≤ getD c 12 0
-      → Taken x last b u → Taken y last′ c u′ → Alongside u u′
+  more-commits : {lines lines′ last′ : ℕ} {b c : List ℕ} {u u′ : Stage} → CommitLine b → CommitLine c → getD b 1 0 ≡ getD c 1 0 → getD b 12 0 ≤ getD c 12 0
+      → Taken x b (Failures lines last) u → Taken y c (Failures lines′ last′) u′ → Alongside u u′
   unfolding failureLine
   more-commits {b = b} line line′ station count (takenEnd kind) t = absurd (not-the-end b line kind)
-  more-commits {c = c} line line′ station count (takenCrash kind _ _) (takenEnd kind′) = absurd (not-the-end c line′ kind′)
-  more-commits {last′} {b} {c} line line′ station count (takenCrash kind placed suits) (takenCrash kind′ placed′ suits′) =
-      let fault = stated-fault x last b line placed suits in
-      let fault′ = stated-fault y last′ c line′ placed′ suits′ in
-      bothFailures
-      (so-far-both x y last so-far (failureLine b) (crash-placed (x .processes) (x .resilience) last (failureLine b) placed) (failureLine c) station
-      (rw (fault, fault′, station) (moreCommits count)))
+  more-commits {c = c} line line′ station count (takenCrash passes) (takenEnd kind) = absurd (not-the-end c line′ kind)
+  more-commits {lines} {lines′} {last′} {b} {c} line line′ station count (takenCrash passes) (takenCrash passes′) =
+      let fault = stated-fault (x .processes) (x .resilience) lines last b line passes in
+      let fault′ = stated-fault (y .processes) (y .resilience) lines′ last′ c line′ passes′ in
+      bothFailures (so-far-both x y last so-far (failureLine b) (placed-here passes) (failureLine c) station (rw (fault, fault′, station) (moreCommits count)))
 
-  missing-commits : {lines′ last′ : ℕ} {b : List ℕ} {u : Stage} → CommitLine b → Taken x last b u → Alongside u (failures y lines′ last′)
+  missing-commits : {lines lines′ last′ : ℕ} {b : List ℕ} {u : Stage} → CommitLine b → Taken x b (Failures lines last) u → Alongside u (body (Failures lines′ last′) y)
   missing-commits {b = b} line (takenEnd kind) = absurd (not-the-end b line kind)
-  missing-commits {b = b} line (takenCrash kind placed suits) =
+  missing-commits {lines} {b = b} line (takenCrash passes) =
       bothFailures
-      (so-far-first x y last so-far (failureLine b) (crash-placed (x .processes) (x .resilience) last (failureLine b) placed)
-      (rw (stated-fault x last b line placed suits) missing))
+      (so-far-first x y last so-far (failureLine b) (placed-here passes) (rw (stated-fault (x .processes) (x .resilience) lines last b line passes) missing))
 
 -- The same line in both.
-same-step : (s s′ : Stage) (b : List ℕ) (next-s next-s′ : Stage) → Alongside s s′ → accept s b ≡ next next-s → accept s′ b ≡ next next-s′ → Alongside next-s next-s′
-unfolding accept acceptHeader acceptProposal
+same-step : (s s′ : Stage) (b : List ℕ) (u u′ : Stage) → Alongside s s′ → accept s b ≡ next u → accept s′ b ≡ next u′ → Alongside u u′
+unfolding accept store lineSays unproposed withProposal
 same-step s s′ b u u′ bothHeader e e′ =
-    let (kind, rest) = passes-if (isKind 1 3 b) 3 _ u e in
-    let (limits, rest′) = passes-if (withinLimits (getD b 1 0) (getD b 2 0)) 4 _ u rest in
-    let at : proposals (getD b 1 0) (getD b 2 0) [] ≡ u = cc in
     let alike : u ≡ u′ = cc in
-    rw (← alike, ← at) bothProposals
-same-step s s′ b u u′ (bothProposals {n} {t} {values}) e e′ =
-    let (kind, rest) = passes-if (isKind 2 6 b) 3 _ u e in
-    let (station, rest′) = passes-if (eqb (getD b 1 0) (suc (length values))) 5 _ u rest in
-    let at : afterProposal n t (values ++ (number (drop 2 b) ∷ [])) ≡ u = cc in
+    rw (← alike) (by-header (header-taken b u e))
+  where
+    by-header : {v : Stage} → HeaderTaken b v → Alongside v v
+    by-header (takenHeader kind limits) = bothProposals refl
+same-step s s′ b u u′ (bothProposals {count} {x} none) e e′ =
     let alike : u ≡ u′ = cc in
-    rw (← alike, ← at) (after-proposal n t _ _ refl)
+    rw (← alike) (by-proposal (taken x (Proposals count) b u e))
+  where
+    by-proposal : {v : Stage} → Taken x b (Proposals count) v → Alongside v v
+    by-proposal (takenProposal kind) = after-proposal (withProposal x _) count none _ refl
 same-step s s′ b u u′ (bothFailures {x} {y} {lines} {lines′} {last} {last′} so-far) e e′ =
-    same-failure x y last so-far (taken x lines last b u e) (taken y lines′ last′ b u′ e′)
+    same-failure so-far (taken x (Failures lines last) b u e) (taken y (Failures lines′ last′) b u′ e′)
 same-step s s′ b u u′ (bothEnded paired) e e′ = absurd (refuse-next 3 u e)
 
+-- A line of the commit step that both have, or the first alone: it stands among the failure lines.
 commit-step : (s s′ : Stage) (b c : List ℕ) (u u′ : Stage) → CommitLine b → CommitLine c → getD b 1 0 ≡ getD c 1 0 → getD b 12 0 ≤ getD c 12 0
     → Alongside s s′ → accept s b ≡ next u → accept s′ c ≡ next u′ → Alongside u u′
-unfolding accept
-commit-step s s′ b c u u′ line line′ station count bothHeader e e′ = absurd (commit-at header b u line e)
-commit-step s s′ b c u u′ line line′ station count (bothProposals {n} {t} {values}) e e′ = absurd (commit-at (proposals n t values) b u line e)
+unfolding accept store lineSays
+commit-step s s′ b c u u′ line line′ station count bothHeader e e′ = absurd (no-header b line (header-taken b u e))
+commit-step s s′ b c u u′ line line′ station count (bothProposals {count = k} {x} none) e e′ = absurd (no-proposal x b line (taken x (Proposals k) b u e))
 commit-step s s′ b c u u′ line line′ station count (bothFailures {x} {y} {lines} {lines′} {last} {last′} so-far) e e′ =
-    more-commits x y last so-far line line′ station count (taken x lines last b u e) (taken y lines′ last′ c u′ e′)
-commit-step s s′ b c u u′ line line′ station count (bothEnded {x} paired) e e′ = absurd (commit-at (ended x) b u line e)
+    more-commits so-far line line′ station count (taken x (Failures lines last) b u e) (taken y (Failures lines′ last′) c u′ e′)
+commit-step s s′ b c u u′ line line′ station count (bothEnded paired) e e′ = absurd (refuse-next 3 u e)
 
 missing-step : (s s′ : Stage) (b : List ℕ) (u : Stage) → CommitLine b → Alongside s s′ → accept s b ≡ next u → Alongside u s′
-unfolding accept
-missing-step s s′ b u line bothHeader e = absurd (commit-at header b u line e)
-missing-step s s′ b u line (bothProposals {n} {t} {values}) e = absurd (commit-at (proposals n t values) b u line e)
-missing-step s s′ b u line (bothFailures {x} {y} {lines} {lines′} {last} {last′} so-far) e = missing-commits x y last so-far line (taken x lines last b u e)
-missing-step s s′ b u line (bothEnded {x} paired) e = absurd (commit-at (ended x) b u line e)
+unfolding accept store lineSays
+missing-step s s′ b u line bothHeader e = absurd (no-header b line (header-taken b u e))
+missing-step s s′ b u line (bothProposals {count = k} {x} none) e = absurd (no-proposal x b line (taken x (Proposals k) b u e))
+missing-step s s′ b u line (bothFailures {x} {y} {lines} {lines′} {last} {last′} so-far) e = missing-commits so-far line (taken x (Failures lines last) b u e)
+missing-step s s′ b u line (bothEnded paired) e = absurd (refuse-next 3 u e)
 
 -- Both texts are over.
 end-step : (s s′ : Stage) (k k′ : ℕ) (x y : Instance) → Alongside s s′ → atEnd s k ≡ accepted x → atEnd s′ k′ ≡ accepted y → Paired x y
 unfolding atEnd
 end-step s s′ k k′ x y bothHeader e e′ = absurd (refused-accepted 3 k x e)
-end-step s s′ k k′ x y bothProposals e e′ = absurd (refused-accepted 3 k x e)
+end-step s s′ k k′ x y (bothProposals none) e e′ = absurd (refused-accepted 3 k x e)
 end-step s s′ k k′ x y (bothFailures so-far) e e′ = absurd (refused-accepted 3 k x e)
 end-step s s′ k k′ x y (bothEnded {x = z} {y = w} paired) e e′ =
     let first : z ≡ x = cc in

@@ -15,7 +15,7 @@ use Rattle.general.proofs.Indexed.{length-mapFrom, mapFrom-at}
 use Rattle.protocol.specs.Round.{State, undecided, decided, crashed, stateOf}
 use Rattle.protocol.specs.Run.{Run}
 use Rattle.formats.specs.Line.{Line, bytes, noLine, linesOf}
-use Rattle.formats.specs.Accept.{isKind}
+use Rattle.formats.specs.Says.{isKind}
 use Rattle.formats.specs.ResultLine.{endBytes, processLine, lastLine, joined, resultLines}
 use Rattle.demands.specs.Said.{isProcessLine, endIn, endFrom, countsIn, countsFrom, lineAt, endSaid, countsSaid}
 use Rattle.formats.proofs.LineReadBack.{line-read-back}

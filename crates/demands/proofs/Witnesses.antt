@@ -22,7 +22,8 @@ use Rattle.protocol.specs.Consensus.{endOf}
 use Rattle.formats.specs.Digit.{digitValue, isDigit}
 use Rattle.formats.specs.Line.{scan, closed, unclosed, linesFrom, linesOf}
 use Rattle.formats.specs.FailureLine.{placesCrash, allBetween, suitsStep}
-use Rattle.formats.specs.Accept.{isKind, acceptHeader, afterProposal, acceptProposal, failureLine, withCrash, acceptCrash, acceptFailure, accept}
+use Rattle.formats.specs.Says.{isKind, headerSays, afterProposal, proposalSays, failureLine, crashSays, failureSays, lineSays}
+use Rattle.formats.specs.Accept.{unproposed, withProposal, withCrash, begin, store, accept}
 use Rattle.formats.specs.Reading.{proceed, readFrom}
 use Rattle.formats.specs.Ticket.{atEnd, readTicket}
 use Rattle.formats.specs.HexText.{digitOf, hexDigits, hexLine}
@@ -56,7 +57,7 @@ unfolding PairedTexts crashText moreCommitsText noCrashText opening case1 case3 
 paired-missing = sameLine (sameLine (sameLine (sameLine (sameLine (missingLine (is-commit-line 1) (sameLine noLines))))))
 
 more-commits : PairMet crashText moreCommitsText 2 1
-unfolding endOf crashText moreCommitsText noCrashText opening case1 case3 textOf ascii onesIn member ones64 number numberFrom bytesOf mapFrom pointFrom faultOf withinLimits arriving sends receives amongFirst reachAt reachIn reach stateOf crashesIn sentBy received afterOutcome after statesAfter isUndecided anyUndecided dataAt commitsAt countIn speaks dataIn commitsIn isIdle countsAsCrash crashCount initial withRound runTo runOf crashesOf digitValue isDigit scan closed unclosed linesFrom linesOf proceed readFrom isKind acceptHeader afterProposal acceptProposal failureLine placesCrash allBetween suitsStep withCrash acceptCrash acceptFailure accept atEnd readTicket
+unfolding endOf crashText moreCommitsText noCrashText opening case1 case3 textOf ascii onesIn member ones64 number numberFrom bytesOf mapFrom pointFrom faultOf withinLimits arriving sends receives amongFirst reachAt reachIn reach stateOf crashesIn sentBy received afterOutcome after statesAfter isUndecided anyUndecided dataAt commitsAt countIn speaks dataIn commitsIn isIdle countsAsCrash crashCount initial withRound runTo runOf crashesOf digitValue isDigit scan closed unclosed linesFrom linesOf proceed readFrom isKind headerSays afterProposal proposalSays failureLine placesCrash allBetween suitsStep crashSays failureSays lineSays unproposed withProposal withCrash begin store accept atEnd readTicket
 more-commits =
     record {
       first = instanceWith (crashes 1 (duringCommits 1));
@@ -69,7 +70,7 @@ more-commits =
     }
 
 line-missing : PairMet crashText noCrashText 2 1
-unfolding endOf crashText moreCommitsText noCrashText opening case1 case3 textOf ascii onesIn member ones64 number numberFrom bytesOf mapFrom pointFrom faultOf withinLimits arriving sends receives amongFirst reachAt reachIn reach stateOf crashesIn sentBy received afterOutcome after statesAfter isUndecided anyUndecided dataAt commitsAt countIn speaks dataIn commitsIn isIdle countsAsCrash crashCount initial withRound runTo runOf crashesOf digitValue isDigit scan closed unclosed linesFrom linesOf proceed readFrom isKind acceptHeader afterProposal acceptProposal failureLine placesCrash allBetween suitsStep withCrash acceptCrash acceptFailure accept atEnd readTicket
+unfolding endOf crashText moreCommitsText noCrashText opening case1 case3 textOf ascii onesIn member ones64 number numberFrom bytesOf mapFrom pointFrom faultOf withinLimits arriving sends receives amongFirst reachAt reachIn reach stateOf crashesIn sentBy received afterOutcome after statesAfter isUndecided anyUndecided dataAt commitsAt countIn speaks dataIn commitsIn isIdle countsAsCrash crashCount initial withRound runTo runOf crashesOf digitValue isDigit scan closed unclosed linesFrom linesOf proceed readFrom isKind headerSays afterProposal proposalSays failureLine placesCrash allBetween suitsStep crashSays failureSays lineSays unproposed withProposal withCrash begin store accept atEnd readTicket
 line-missing =
     record {
       first = instanceWith (crashes 1 (duringCommits 1));
@@ -83,7 +84,7 @@ line-missing =
 
 -- The buffer of 100 bytes holds the result and, behind it, what stood there.
 written : RunMet crashText 85
-unfolding answerOf runCode running resultIn bufferAfter resultText resultLines joined lastLine processLine endBytes resultSize hexLine hexDigits digitOf crashText moreCommitsText noCrashText opening case1 case3 textOf ascii onesIn member ones64 number numberFrom bytesOf mapFrom pointFrom faultOf withinLimits arriving sends receives amongFirst reachAt reachIn reach stateOf crashesIn sentBy received afterOutcome after statesAfter isUndecided anyUndecided dataAt commitsAt countIn speaks dataIn commitsIn isIdle countsAsCrash crashCount initial withRound runTo runOf crashesOf digitValue isDigit scan closed unclosed linesFrom linesOf proceed readFrom isKind acceptHeader afterProposal acceptProposal failureLine placesCrash allBetween suitsStep withCrash acceptCrash acceptFailure accept atEnd readTicket
+unfolding answerOf runCode running resultIn bufferAfter resultText resultLines joined lastLine processLine endBytes resultSize hexLine hexDigits digitOf crashText moreCommitsText noCrashText opening case1 case3 textOf ascii onesIn member ones64 number numberFrom bytesOf mapFrom pointFrom faultOf withinLimits arriving sends receives amongFirst reachAt reachIn reach stateOf crashesIn sentBy received afterOutcome after statesAfter isUndecided anyUndecided dataAt commitsAt countIn speaks dataIn commitsIn isIdle countsAsCrash crashCount initial withRound runTo runOf crashesOf digitValue isDigit scan closed unclosed linesFrom linesOf proceed readFrom isKind headerSays afterProposal proposalSays failureLine placesCrash allBetween suitsStep crashSays failureSays lineSays unproposed withProposal withCrash begin store accept atEnd readTicket
 written =
     record {
       before = replicate 100 165;

@@ -13,7 +13,7 @@ use Rattle.protocol.specs.Round.{State, decided, crashed}
 use Rattle.protocol.specs.Run.{runOf, crashesOf}
 use Rattle.protocol.specs.Consensus.{IsProcess}
 use Rattle.formats.specs.Line.{Line, bytes, noLine, linesOf}
-use Rattle.formats.specs.Accept.{isKind}
+use Rattle.formats.specs.Says.{isKind}
 
 -- A station line of process p with this end: 11, station, end, round, value (4 bytes).
 unfoldable pub isProcessLine : (p end : ℕ) → List ℕ → Bool

@@ -11,7 +11,8 @@ use Rattle.protocol.specs.Instance.{Instance}
 use Rattle.formats.specs.Line.{Line, bytes, noLine, linesOf}
 use Rattle.formats.specs.Step.{Step, next, refuse}
 use Rattle.formats.specs.Reading.{Reading, refused, proceed, readFrom}
-use Rattle.formats.specs.Accept.{Stage, header, proposals, failures, ended, accept}
+use Rattle.formats.specs.Accept.{Stage, header, body, accept}
+use Rattle.formats.specs.declared.Place.the-variants.{Proposals, Failures, Ended}
 use Rattle.formats.specs.Ticket.{ticketLimit, atEnd, readTicket}
 use Rattle.formats.specs.FirstWrong.{Passed, none, oneMore, NotEnded, FirstWrong, tooLong, notALine, refusedLine, over}
 use Rattle.formats.proofs.Passing.{refused-accepted}
@@ -31,9 +32,9 @@ passed-one (oneMore first more) e = oneMore first (passed-one more e)
 not-ended : (u : Stage) (k : ℕ) → NotEnded u → atEnd u k ≡ refused 3 k
 unfolding NotEnded atEnd
 not-ended header k h = refl
-not-ended (proposals n t values) k h = refl
-not-ended (failures x lines last) k h = refl
-not-ended (ended x) k h = absurd h
+not-ended (body (Proposals count) x) k h = refl
+not-ended (body (Failures lines last) x) k h = refl
+not-ended (body Ended x) k h = absurd h
 
 module _ (text : List ℕ) where
   short-read : length text ≤ ticketLimit → readTicket text ≡ readFrom accept atEnd header 1 (linesOf text)
@@ -58,9 +59,9 @@ module _ (text : List ℕ) where
     end-wrong : (s : Stage) (k : ℕ) → Passed header (linesOf text) k s [] → atEnd s (suc k) ≡ refused refusal line → FirstWrong text refusal line
     unfolding atEnd NotEnded
     end-wrong header k passed e = told 3 (suc k) refusal line e (over short passed tt)
-    end-wrong (proposals n t values) k passed e = told 3 (suc k) refusal line e (over short passed tt)
-    end-wrong (failures x lines last) k passed e = told 3 (suc k) refusal line e (over short passed tt)
-    end-wrong (ended x) k passed e = absurd (refused-accepted refusal line x (sym e))
+    end-wrong (body (Proposals count) x) k passed e = told 3 (suc k) refusal line e (over short passed tt)
+    end-wrong (body (Failures lines last) x) k passed e = told 3 (suc k) refusal line e (over short passed tt)
+    end-wrong (body Ended x) k passed e = absurd (refused-accepted refusal line x (sym e))
 
     lines-wrong : (lines : List Line) (s : Stage) (k : ℕ) → Passed header (linesOf text) k s lines → readFrom accept atEnd s (suc k) lines ≡ refused refusal line
         → FirstWrong text refusal line

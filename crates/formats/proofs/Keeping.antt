@@ -19,23 +19,6 @@ unfoldable pub Gives : {A : Type 0} → (A → Type 0) → Reading A → Type 0
 Gives Q (accepted a) = Q a
 Gives Q (refused number k) = Unit {0}
 
-module _ {S : Type 0} (P : S → Type 0) where
-  -- A line is refused unless a test holds.
-  pub keeps-if : (test : Bool) (number : ℕ) (step : Step S) → (test ≡ true → Keeps P step) → Keeps P (cond (not test) (refuse number) step)
-  unfolding Keeps
-  keeps-if true number step h = h refl
-  keeps-if false number step h = tt
-
-  -- A line is refused if a test holds.
-  pub keeps-unless : (test : Bool) (number : ℕ) (step : Step S) → (test ≡ false → Keeps P step) → Keeps P (cond test (refuse number) step)
-  unfolding Keeps
-  keeps-unless true number step h = tt
-  keeps-unless false number step h = h refl
-
-  pub keeps-either : (test : Bool) (step other : Step S) → Keeps P step → Keeps P other → Keeps P (cond test step other)
-  keeps-either true step other h g = h
-  keeps-either false step other h g = g
-
 module _ {S A : Type 0} (accept : S → List ℕ → Step S) (end : S → ℕ → Reading A) (P : S → Type 0) (Q : A → Type 0)
     (keeps : (s : S) (b : List ℕ) → Bytes b → P s → Keeps P (accept s b)) (ends : (s : S) (k : ℕ) → P s → Gives Q (end s k)) where
   proceed-gives : (step : Step S) (k : ℕ) (go : S → Reading A) → Keeps P step → ((s : S) → P s → Gives Q (go s)) → Gives Q (proceed step k go)

@@ -1,5 +1,7 @@
 pub mod LineBytes
 pub mod CrashAllowed
+pub mod LineCases
+pub mod Taken
 pub mod Passing
 pub mod Keeping
 pub mod WellFormed

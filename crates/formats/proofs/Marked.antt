@@ -19,7 +19,8 @@ use Rattle.formats.specs.Digit.{digitValue, isDigit}
 use Rattle.formats.specs.Line.{scan, closed, unclosed, linesFrom, linesOf}
 use Rattle.formats.specs.Reading.{proceed, readFrom}
 use Rattle.formats.specs.FailureLine.{placesCrash, allBetween, suitsStep}
-use Rattle.formats.specs.Accept.{isKind, acceptHeader, afterProposal, acceptProposal, failureLine, withCrash, acceptCrash, acceptFailure, accept}
+use Rattle.formats.specs.Says.{isKind, headerSays, afterProposal, proposalSays, failureLine, crashSays, failureSays, lineSays}
+use Rattle.formats.specs.Accept.{unproposed, withProposal, withCrash, begin, store, accept}
 use Rattle.formats.specs.Ticket.{atEnd, readTicket}
 use Rattle.formats.specs.HexText.{digitOf, hexDigits, hexLine}
 use Rattle.formats.specs.ResultLine.{endBytes, processLine, lastLine, joined, resultLines, resultText, resultSize, refusalLine}
@@ -30,5 +31,5 @@ use Rattle.formats.specs.FurtherRuns.{noCommit, twoCommits, setOfTwo, si
 
 -- For each case the program writes what the case says.
 pub marked-cases : MarkedCases
-unfolding writes says cases furtherRuns noCommit twoCommits setOfTwo silentEnd opening textOf ascii case1 case2 case3 case4 case5 case6 case7 case8 case9 case10 case10Passes case11 case12 onesIn member ones64 number numberFrom bytesOf mapFrom pointFrom faultOf withinLimits arriving sends receives amongFirst reachAt reachIn reach stateOf crashesIn sentBy received afterOutcome after statesAfter isUndecided anyUndecided dataAt commitsAt countIn speaks dataIn commitsIn isIdle countsAsCrash crashCount initial withRound runTo runOf crashesOf digitValue isDigit scan closed unclosed linesFrom linesOf proceed readFrom isKind acceptHeader afterProposal acceptProposal failureLine placesCrash allBetween suitsStep withCrash acceptCrash acceptFailure accept atEnd readTicket digitOf hexDigits hexLine endBytes processLine lastLine joined resultLines resultText resultSize refusalLine resultIn running written programWrites
+unfolding writes says cases furtherRuns noCommit twoCommits setOfTwo silentEnd opening textOf ascii case1 case2 case3 case4 case5 case6 case7 case8 case9 case10 case10Passes case11 case12 onesIn member ones64 number numberFrom bytesOf mapFrom pointFrom faultOf withinLimits arriving sends receives amongFirst reachAt reachIn reach stateOf crashesIn sentBy received afterOutcome after statesAfter isUndecided anyUndecided dataAt commitsAt countIn speaks dataIn commitsIn isIdle countsAsCrash crashCount initial withRound runTo runOf crashesOf digitValue isDigit scan closed unclosed linesFrom linesOf proceed readFrom isKind headerSays afterProposal proposalSays failureLine placesCrash allBetween suitsStep crashSays failureSays lineSays unproposed withProposal withCrash begin store accept atEnd readTicket digitOf hexDigits hexLine endBytes processLine lastLine joined resultLines resultText resultSize refusalLine resultIn running written programWrites
 marked-cases = record { numbers = refl; written = refl }

@@ -1,6 +1,5 @@
--- An accepted line, and an accepted text, pass each test on their way, whatever the format. Assumes nothing.
+-- What a refusal is not, and where an accepted text went on, whatever the format. Assumes nothing.
 use mathlib.Core.Path.{_≡_, refl}
-use mathlib.Core.Bool.{Bool, true, false, cond, not}
 use Prim.Native.Nat.{ℕ}
 use native.Mathlib.Omega.{arith}
 use Rattle.formats.specs.Step.{Step, next, refuse}
@@ -13,16 +12,8 @@ refuse-next refusal s e = let z : _≡_ {A = ℕ} 0 1 = cc in omega arith
 pub refused-accepted : {A : Type 0} (refusal k : ℕ) (a : A) → refused refusal k ≡ accepted a → ⊥
 refused-accepted refusal k a e = let z : _≡_ {A = ℕ} 0 1 = cc in omega arith
 
--- What the tests of an accepted line were, and where an accepted text went on.
+-- Where an accepted text went on.
 module _ {S : Type 0} where
-  pub passes-if : (test : Bool) (refusal : ℕ) (step : Step S) (s : S) → cond (not test) (refuse refusal) step ≡ next s → (test ≡ true) × (step ≡ next s)
-  passes-if true refusal step s e = (refl, e)
-  passes-if false refusal step s e = absurd (refuse-next refusal s e)
-
-  pub passes-unless : (test : Bool) (refusal : ℕ) (step : Step S) (s : S) → cond test (refuse refusal) step ≡ next s → step ≡ next s
-  passes-unless true refusal step s e = absurd (refuse-next refusal s e)
-  passes-unless false refusal step s e = e
-
   pub proceeds : {A : Type 0} (step : Step S) (k : ℕ) (go : S → Reading A) (a : A) → proceed step k go ≡ accepted a → (s : S) × (step ≡ next s) × (go s ≡ accepted a)
   unfolding proceed
   proceeds (next s) k go a e = (s, refl, e)

@@ -7,7 +7,8 @@ use Rattle.protocol.specs.Instance.{pointFrom, withinLimits}
 use Rattle.formats.specs.Digit.{digitValue, isDigit}
 use Rattle.formats.specs.Line.{scan, closed, unclosed, linesFrom, linesOf}
 use Rattle.formats.specs.FailureLine.{placesCrash, allBetween, suitsStep}
-use Rattle.formats.specs.Accept.{isKind, acceptHeader, afterProposal, acceptProposal, failureLine, withCrash, acceptCrash, acceptFailure, accept}
+use Rattle.formats.specs.Says.{isKind, headerSays, afterProposal, proposalSays, failureLine, crashSays, failureSays, lineSays}
+use Rattle.formats.specs.Accept.{unproposed, withProposal, withCrash, begin, store, accept}
 use Rattle.formats.specs.Reading.{proceed, readFrom}
 use Rattle.formats.specs.Ticket.{atEnd, readTicket}
 use Rattle.formats.specs.ResultLine.{resultSize}
@@ -16,13 +17,13 @@ use Rattle.formats.specs.Table.{textOf, opening, case1, case2}
 use Rattle.formats.specs.ReadingCases.{verdictOf, afterOpening, tooLong, notLines, wrongKinds, limits, stations, tooMany, places, steps, firstRules, readingRows, ReadingCases, roomRows, RoomCases, describingTicket, describedFaults, described, TicketDescribes}
 
 pub reading-cases : ReadingCases
-unfolding readingRows tooLong notLines wrongKinds limits stations tooMany places steps firstRules verdictOf opening afterOpening textOf ascii number numberFrom pointFrom withinLimits digitValue isDigit scan closed unclosed linesFrom linesOf proceed readFrom isKind acceptHeader afterProposal acceptProposal failureLine placesCrash allBetween suitsStep withCrash acceptCrash acceptFailure accept atEnd readTicket
+unfolding readingRows tooLong notLines wrongKinds limits stations tooMany places steps firstRules verdictOf opening afterOpening textOf ascii number numberFrom pointFrom withinLimits digitValue isDigit scan closed unclosed linesFrom linesOf proceed readFrom isKind headerSays afterProposal proposalSays failureLine placesCrash allBetween suitsStep crashSays failureSays lineSays unproposed withProposal withCrash begin store accept atEnd readTicket
 reading-cases = record { rows = refl; answered = refl }
 
 pub room-cases : RoomCases
-unfolding roomRows verdictOf opening afterOpening textOf ascii case1 case2 resultSize resultIn running number numberFrom pointFrom withinLimits digitValue isDigit scan closed unclosed linesFrom linesOf proceed readFrom isKind acceptHeader afterProposal acceptProposal failureLine placesCrash allBetween suitsStep withCrash acceptCrash acceptFailure accept atEnd readTicket
+unfolding roomRows verdictOf opening afterOpening textOf ascii case1 case2 resultSize resultIn running number numberFrom pointFrom withinLimits digitValue isDigit scan closed unclosed linesFrom linesOf proceed readFrom isKind headerSays afterProposal proposalSays failureLine placesCrash allBetween suitsStep crashSays failureSays lineSays unproposed withProposal withCrash begin store accept atEnd readTicket
 room-cases = record { rows = refl; answered = refl }
 
 pub ticket-describes : TicketDescribes
-unfolding TicketDescribes describingTicket describedFaults described textOf ascii number numberFrom pointFrom withinLimits digitValue isDigit scan closed unclosed linesFrom linesOf proceed readFrom isKind acceptHeader afterProposal acceptProposal failureLine placesCrash allBetween suitsStep withCrash acceptCrash acceptFailure accept atEnd readTicket
+unfolding TicketDescribes describingTicket describedFaults described textOf ascii number numberFrom pointFrom withinLimits digitValue isDigit scan closed unclosed linesFrom linesOf proceed readFrom isKind headerSays afterProposal proposalSays failureLine placesCrash allBetween suitsStep crashSays failureSays lineSays unproposed withProposal withCrash begin store accept atEnd readTicket
 ticket-describes = refl

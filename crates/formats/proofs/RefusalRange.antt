@@ -11,8 +11,12 @@ use Rattle.protocol.specs.Instance.{withinLimits}
 use Rattle.formats.specs.Line.{Line, bytes, noLine, Scan, even, odd, broken, scan, closed, unclosed, linesFrom, linesOf}
 use Rattle.formats.specs.Step.{Step, next, refuse}
 use Rattle.formats.specs.Reading.{Reading, accepted, refused, proceed, readFrom}
-use Rattle.formats.specs.FailureLine.{placesCrash, suitsStep}
-use Rattle.formats.specs.Accept.{Stage, header, proposals, failures, ended, isKind, acceptHeader, acceptProposal, failureLine, acceptCrash, acceptFailure, accept}
+use Rattle.formats.specs.Accept.{Stage, header, body, begin, store, accept}
+use Rattle.formats.specs.declared.Place.{Place}
+use Rattle.formats.specs.declared.Place.the-variants.{Proposals, Failures, Ended}
+use Rattle.formats.specs.declared.HeaderAnswer.{HeaderAnswer}
+use Rattle.formats.specs.declared.LineAnswer.{LineAnswer}
+use Rattle.formats.proofs.LineCases.{HeaderCase, limitsSaid, headerRefused, header-case, LineCase, proposalSaid, crashSaid, endSaid, lineRefused, line-case}
 use Rattle.formats.specs.Ticket.{ticketLimit, atEnd, readTicket}
 
 -- A line, if it is refused, is refused with one of these numbers.
@@ -61,40 +65,28 @@ from-few (c ∷ text) s =
     either-few (eqb c 10) (closed s ∷ linesFrom (even []) text) (linesFrom (scan s c) text) (suc (suc (length text))) (omega (arith, ended)) (omega (arith, longer))
 
 -- A line of a ticket that is refused.
-module _ {S : Type 0} where
-  either-numbered : (test : Bool) (number : ℕ) (step : Step S) → 1 ≤ number → number ≤ 8 → Numbered step → Numbered (cond test (refuse number) step)
-  unfolding Numbered
-  either-numbered true number step some few h = (some, few)
-  either-numbered false number step some few h = h
-
-  next-numbered : (test : Bool) (s : S) (step : Step S) → Numbered step → Numbered (cond test (next s) step)
-  unfolding Numbered
-  next-numbered true s step h = tt
-  next-numbered false s step h = h
-
 line-numbered : (s : Stage) (b : List ℕ) → Numbered (accept s b)
-unfolding accept acceptHeader acceptProposal acceptFailure acceptCrash Numbered
-line-numbered header b =
-    either-numbered (not (isKind 1 3 b)) 3 _ (omega arith) (omega arith)
-    (either-numbered (not (withinLimits (getD b 1 0) (getD b 2 0))) 4 _ (omega arith) (omega arith) tt)
-line-numbered (proposals n t values) b =
-    either-numbered (not (isKind 2 6 b)) 3 _ (omega arith) (omega arith)
-    (either-numbered (not (eqb (getD b 1 0) (suc (length values)))) 5 _ (omega arith) (omega arith) tt)
-line-numbered (failures x lines last) b =
-    next-numbered (isKind 4 1 b) _ _
-    (either-numbered (not (isKind 3 13 b)) 3 _ (omega arith) (omega arith)
-    (either-numbered (leb (x .resilience) lines) 6 _ (omega arith) (omega arith)
-    (either-numbered (not (placesCrash (x .processes) (x .resilience) last (failureLine b))) 7 _ (omega arith) (omega arith)
-    (either-numbered (not (suitsStep (x .processes) (failureLine b))) 8 _ (omega arith) (omega arith) tt))))
-line-numbered (ended x) b = (omega arith, omega arith)
+unfolding accept begin store Numbered
+line-numbered header b = by-case (header-case b)
+  where
+    by-case : {a : HeaderAnswer} → HeaderCase b a → Numbered (begin a)
+    by-case (limitsSaid kind limits) = tt
+    by-case (headerRefused refusal some few) = (omega arith, omega arith)
+line-numbered (body place x) b = by-case (line-case (x .processes) (x .resilience) b place)
+  where
+    by-case : {at : Place} {a : LineAnswer} → LineCase (x .processes) (x .resilience) b at a → Numbered (store x a)
+    by-case (proposalSaid kind station) = tt
+    by-case (crashSaid passes) = tt
+    by-case (endSaid kind) = tt
+    by-case (lineRefused refusal some few) = (omega arith, omega arith)
 
 -- A text that is over.
 end-refused : (last : ℕ) (s : Stage) (k : ℕ) → k ≤ last → RefusedBy last (atEnd s k)
 unfolding atEnd RefusedBy
 end-refused last header k h = (omega arith, omega arith, h)
-end-refused last (proposals n t values) k h = (omega arith, omega arith, h)
-end-refused last (failures x lines last′) k h = (omega arith, omega arith, h)
-end-refused last (ended x) k h = tt
+end-refused last (body (Proposals count) x) k h = (omega arith, omega arith, h)
+end-refused last (body (Failures lines station) x) k h = (omega arith, omega arith, h)
+end-refused last (body Ended x) k h = tt
 
 -- The line one past the last, of a text of at most 4,096 bytes.
 abbrev pub lastRefused : ℕ

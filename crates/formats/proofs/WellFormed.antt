@@ -1,12 +1,12 @@
 -- An accepted ticket is well-formed: each line keeps what is known of the stage, so the stage after the last line has all that `WellFormed` asks. Assumes nothing.
 use mathlib.Core.List.{List, [], _∷_, _++_}
-use mathlib.Core.Path.{_≡_, refl, subst}
+use mathlib.Core.Path.{_≡_, refl, subst, _∙_}
 use mathlib.Core.Bool.{Bool, true, false, cond}
 use Prim.Native.Nat.{ℕ, suc, _-_, _^_, _≤_, _<_}
 use native.Mathlib.Omega.{arith}
-use lib.Dec.{eqb, ltb, leb}
+use lib.Dec.{eqb, ltb}
 use lib.ListN.{length, getD, drop, replicate, length-append, length-set, length-replicate, length-drop, getD-replicate}
-use borrow.Author.Tests.{eqb-true, eqb-false, leb-false}
+use borrow.Author.Tests.{eqb-true, eqb-false}
 use Rattle.general.specs.BigEndian.{number}
 use Rattle.general.proofs.Tests.{both}
 use Rattle.general.proofs.Bytes.{AllBelow, Bytes, below-snoc, drop-bytes}
@@ -14,14 +14,19 @@ use Rattle.general.proofs.BigEndian.{number-below}
 use Rattle.protocol.specs.Instance.{Instance, correct, faultOf, withinLimits}
 use Rattle.protocol.specs.WellFormed.{FaultAllowed, faultCount, WellFormed}
 use Rattle.formats.specs.Line.{linesOf}
-use Rattle.formats.specs.Step.{next}
 use Rattle.formats.specs.Reading.{accepted, refused, readFrom}
 use Rattle.formats.specs.declared.FailureLine.{FailureLine}
-use Rattle.formats.specs.FailureLine.{placesCrash, suitsStep, faultBy}
-use Rattle.formats.specs.Accept.{Stage, header, proposals, failures, ended, isKind, acceptHeader, afterProposal, acceptProposal, failureLine, withCrash, acceptCrash, acceptFailure, accept}
+use Rattle.formats.specs.FailureLine.{faultBy}
+use Rattle.formats.specs.Says.{isKind, headerSays, afterProposal, failureLine}
+use Rattle.formats.specs.Accept.{Stage, header, body, unproposed, withProposal, withCrash, begin, store, accept}
+use Rattle.formats.specs.declared.Place.{Place}
+use Rattle.formats.specs.declared.Place.the-variants.{Proposals, Failures, Ended}
+use Rattle.formats.specs.declared.HeaderAnswer.{HeaderAnswer}
+use Rattle.formats.specs.declared.LineAnswer.{LineAnswer}
 use Rattle.formats.specs.Ticket.{ticketLimit, atEnd, readTicket}
 use Rattle.formats.proofs.LineBytes.{lines-bytes}
-use Rattle.formats.proofs.Keeping.{Keeps, Gives, keeps-if, keeps-unless, keeps-either, reading-gives}
+use Rattle.formats.proofs.LineCases.{HeaderCase, limitsSaid, headerRefused, header-case, CrashPasses, LineCase, proposalSaid, crashSaid, endSaid, lineRefused, line-case}
+use Rattle.formats.proofs.Keeping.{Keeps, Gives, reading-gives}
 use Rattle.formats.proofs.CrashAllowed.{crash-placed, crash-allowed}
 use Rattle.protocol.proofs.Limits.{Limits, limits-hold}
 use Rattle.protocol.proofs.FaultsStated.{count-set, faults-none, allowed-set}
@@ -30,11 +35,13 @@ use Rattle.protocol.proofs.FaultsStated.{count-set, faults-none, allowed-set}
 abbrev ValuesFit : List ℕ → Type 0
 ValuesFit values = AllBelow (2 ^ 32) values
 
--- What is known after some proposals.
-pub record ProposalsAllowed (n t : ℕ) (values : List ℕ) : Type 0 where
-  pub limits : Limits n t
-  pub values-fit : ValuesFit values
-  pub some-missing : length values < n
+-- What is known after so many proposals: some are missing, and no process has a fault yet.
+pub record ProposalsAllowed (x : Instance) (count : ℕ) : Type 0 where
+  pub limits : Limits (x .processes) (x .resilience)
+  pub values-fit : ValuesFit (x .proposals)
+  pub counted : length (x .proposals) ≡ count
+  pub some-missing : count < x .processes
+  pub none-crashes : x .pattern ≡ replicate (x .processes) correct
 
 -- What is known after so many failure lines.
 pub record FailuresAllowed (x : Instance) (lines : ℕ) : Type 0 where
@@ -44,49 +51,40 @@ pub record FailuresAllowed (x : Instance) (lines : ℕ) : Type 0 where
 -- What is known at each stage of a ticket.
 unfoldable pub StageAllowed : Stage → Type 0
 StageAllowed header = Unit {0}
-StageAllowed (proposals n t values) = ProposalsAllowed n t values
-StageAllowed (failures x lines last) = FailuresAllowed x lines
-StageAllowed (ended x) = WellFormed x
+StageAllowed (body (Proposals count) x) = ProposalsAllowed x count
+StageAllowed (body (Failures lines last) x) = FailuresAllowed x lines
+StageAllowed (body Ended x) = WellFormed x
 
 -- Before the first proposal.
-pub first-allowed : (n t : ℕ) → withinLimits n t ≡ true → ProposalsAllowed n t []
+first-allowed : (n t : ℕ) → withinLimits n t ≡ true → ProposalsAllowed (unproposed n t) 0
+unfolding unproposed
 first-allowed n t e =
     let within = limits-hold n t e in
-    record { limits = within; values-fit = λ p. omega arith; some-missing = omega arith }
+    record { limits = within; values-fit = λ p. omega arith; counted = refl; some-missing = omega arith; none-crashes = refl }
 
-pub header-keeps : (b : List ℕ) → Keeps StageAllowed (acceptHeader b)
-unfolding acceptHeader Keeps StageAllowed
-header-keeps b =
-    keeps-if StageAllowed (isKind 1 3 b) 3 _ λ _.
-    keeps-if StageAllowed (withinLimits (getD b 1 0) (getD b 2 0)) 4 _ (first-allowed _ _)
+header-keeps : (b : List ℕ) → Keeps StageAllowed (begin (headerSays b))
+unfolding begin Keeps StageAllowed
+header-keeps b = by-case (header-case b)
+  where
+    by-case : {a : HeaderAnswer} → HeaderCase b a → Keeps StageAllowed (begin a)
+    by-case (limitsSaid kind limits) = first-allowed _ _ limits
+    by-case (headerRefused refusal some few) = tt
 
 -- The instance after the last proposal, without any crash.
-module _ (n t : ℕ) (values : List ℕ) (limits : Limits n t) (fit : ValuesFit values)
-    (some-left : length values ≤ n) where
-  abbrev withoutCrash : Instance
-  withoutCrash = record { processes = n; resilience = t; proposals = values; pattern = replicate n correct }
-
-  without-crash : length values ≡ n → WellFormed withoutCrash
-  unfolding FaultAllowed faultOf
-  without-crash e =
-      record {
-        some-process = limits .some-process;
-        at-most-64 = limits .at-most-64;
-        fewer-crashes = limits .fewer-crashes;
-        all-propose = e;
-        all-have-fault = length-replicate n correct;
-        values-fit = fit;
-        faults-allowed = λ p h g. rw (getD-replicate n (p - 1) correct correct (omega arith)) tt;
-        few-faults = rw faults-none (omega arith);
-      }
-
-  proposal-next : (whole : Bool) → eqb (length values) n ≡ whole
-      → StageAllowed (cond whole (failures withoutCrash 0 0) (proposals n t values))
-  unfolding StageAllowed
-  proposal-next true e = record { well-formed = without-crash (eqb-true _ _ e); counted = rw faults-none (omega arith) }
-  proposal-next false e =
-      let missing : length values ≡ n → ⊥ = eqb-false _ _ e in
-      record { limits = limits; values-fit = fit; some-missing = omega (arith, missing) }
+without-crash : (x : Instance) → Limits (x .processes) (x .resilience) → ValuesFit (x .proposals) → length (x .proposals) ≡ x .processes
+    → x .pattern ≡ replicate (x .processes) correct → WellFormed x
+unfolding FaultAllowed faultOf
+without-crash x limits fit all none =
+    record {
+      some-process = limits .some-process;
+      at-most-64 = limits .at-most-64;
+      fewer-crashes = limits .fewer-crashes;
+      all-propose = all;
+      all-have-fault = rw none (length-replicate (x .processes) correct);
+      values-fit = fit;
+      faults-allowed = λ p h g. rw (none, getD-replicate (x .processes) (p - 1) correct correct (omega arith)) tt;
+      few-faults = rw (none, faults-none) (omega arith);
+    }
 
 -- The value of a proposal line fits four bytes.
 value-fits : (b : List ℕ) → Bytes b → isKind 2 6 b ≡ true → number (drop 2 b) < 2 ^ 32
@@ -96,67 +94,71 @@ value-fits b h e =
     let four : length (drop 2 b) ≡ 4 = rw (length-drop, six) in
     rw four at (number-below (drop 2 b) (drop-bytes 2 b h))
 
-proposal-keeps : (n t : ℕ) (values b : List ℕ) → Bytes b → StageAllowed (proposals n t values) → Keeps StageAllowed (acceptProposal n t values b)
-unfolding acceptProposal StageAllowed Keeps afterProposal
-proposal-keeps n t values b h g =
-    keeps-if StageAllowed (isKind 2 6 b) 3 _ λ kind.
-    keeps-if StageAllowed (eqb (getD b 1 0) (suc (length values))) 5 _ λ _.
-    proposal-next n t (values ++ (number (drop 2 b) ∷ [])) (g .limits) (below-snoc (2 ^ 32) values _ (g .values-fit) (value-fits b h kind))
-    (rw length-append (omega arith)) _ refl
+-- One proposal more.
+module _ (x : Instance) (count v : ℕ) (known : ProposalsAllowed x count) (fits : v < 2 ^ 32) where
+  one-more : length (x .proposals ++ (v ∷ [])) ≡ suc count
+  one-more = length-append (x .proposals) (v ∷ []) ∙ omega (arith, known .counted)
 
--- The instance with a failure line that refusals 6 to 8 let pass.
-module _ (x : Instance) (lines last : ℕ) (l : FailureLine) (known : FailuresAllowed x lines) where
-  with-crash : lines < x .resilience → placesCrash (x .processes) (x .resilience) last l ≡ true → suitsStep (x .processes) l ≡ true
-      → FailuresAllowed (withCrash x l) (suc lines)
-  unfolding withCrash faultOf
-  with-crash less placed suits =
-      let w = known .well-formed in
-      let more = count-set (x .pattern) (l .process - 1) (faultBy l) in
-      let here = crash-placed (x .processes) (x .resilience) last l placed in
-      let allowed = crash-allowed (x .processes) (x .resilience) last l placed suits in
+  proposal-next : (whole : Bool) → eqb (suc count) (x .processes) ≡ whole
+      → StageAllowed (body (cond whole (Failures 0 0) (Proposals (suc count))) (withProposal x v))
+  unfolding StageAllowed withProposal
+  proposal-next true e =
+      let fit = below-snoc (2 ^ 32) (x .proposals) v (known .values-fit) fits in
+      let formed = without-crash (withProposal x v) (known .limits) fit (one-more ∙ eqb-true _ _ e) (known .none-crashes) in
+      record { well-formed = formed; counted = rw (known .none-crashes, faults-none) (omega arith) }
+  proposal-next false e =
+      let missing : suc count ≡ x .processes → ⊥ = eqb-false _ _ e in
       record {
-        well-formed = record {
-          some-process = w .some-process;
-          at-most-64 = w .at-most-64;
-          fewer-crashes = w .fewer-crashes;
-          all-propose = w .all-propose;
-          all-have-fault = rw length-set (w .all-have-fault);
-          values-fit = w .values-fit;
-          faults-allowed = λ p h g. allowed-set (FaultAllowed (x .processes) (x .resilience)) (x .pattern) (l .process) (faultBy l) p
-              (here .process-from-1) h (rw (w .all-have-fault) g) allowed (w .faults-allowed p h g);
-          few-faults = omega arith;
-        };
-        counted = omega arith;
+        limits = known .limits;
+        values-fit = below-snoc (2 ^ 32) (x .proposals) v (known .values-fit) fits;
+        counted = one-more;
+        some-missing = omega (arith, missing, known .some-missing);
+        none-crashes = known .none-crashes;
       }
 
-  crash-keeps : Keeps StageAllowed (acceptCrash x lines last l)
-  unfolding acceptCrash StageAllowed Keeps
-  crash-keeps =
-      keeps-unless StageAllowed (leb (x .resilience) lines) 6 _ λ less.
-      keeps-if StageAllowed (placesCrash (x .processes) (x .resilience) last l) 7 _ λ placed.
-      keeps-if StageAllowed (suitsStep (x .processes) l) 8 _ λ suits.
-      with-crash (leb-false _ _ less) placed suits
-
-failure-keeps : (x : Instance) (lines last : ℕ) (b : List ℕ) → StageAllowed (failures x lines last) → Keeps StageAllowed (acceptFailure x lines last b)
-unfolding acceptFailure Keeps StageAllowed
-failure-keeps x lines last b g =
-    keeps-either StageAllowed (isKind 4 1 b) (next (ended x)) _ (g .well-formed)
-    (keeps-if StageAllowed (isKind 3 13 b) 3 _ λ _. crash-keeps x lines last (failureLine b) g)
+-- The instance with a failure line that refusals 6 to 8 let pass.
+with-crash : (x : Instance) (lines last : ℕ) (b : List ℕ) → FailuresAllowed x lines → CrashPasses (x .processes) (x .resilience) lines last b
+    → FailuresAllowed (withCrash x (failureLine b)) (suc lines)
+unfolding withCrash faultOf
+with-crash x lines last b known passes =
+    let l : FailureLine = failureLine b in
+    let w = known .well-formed in
+    let more = count-set (x .pattern) (l .process - 1) (faultBy l) in
+    let here = crash-placed (x .processes) (x .resilience) last l (passes .placed) in
+    let allowed = crash-allowed (x .processes) (x .resilience) last l (passes .placed) (passes .suits) in
+    record {
+      well-formed = record {
+        some-process = w .some-process;
+        at-most-64 = w .at-most-64;
+        fewer-crashes = w .fewer-crashes;
+        all-propose = w .all-propose;
+        all-have-fault = rw length-set (w .all-have-fault);
+        values-fit = w .values-fit;
+        faults-allowed = λ p h g. allowed-set (FaultAllowed (x .processes) (x .resilience)) (x .pattern) (l .process) (faultBy l) p
+            (here .process-from-1) h (rw (w .all-have-fault) g) allowed (w .faults-allowed p h g);
+        few-faults = omega (arith, more, known .counted, passes .few);
+      };
+      counted = omega (arith, more, known .counted);
+    }
 
 -- A line of bytes keeps what is known.
-pub stage-keeps : (s : Stage) (b : List ℕ) → Bytes b → StageAllowed s → Keeps StageAllowed (accept s b)
-unfolding accept Keeps
+stage-keeps : (s : Stage) (b : List ℕ) → Bytes b → StageAllowed s → Keeps StageAllowed (accept s b)
+unfolding accept store Keeps StageAllowed afterProposal
 stage-keeps header b h g = header-keeps b
-stage-keeps (proposals n t values) b h g = proposal-keeps n t values b h g
-stage-keeps (failures x lines last) b h g = failure-keeps x lines last b g
-stage-keeps (ended x) b h g = tt
+stage-keeps (body place x) b h g = by-case (line-case (x .processes) (x .resilience) b place) g
+  where
+    by-case : {place : Place} {a : LineAnswer} → LineCase (x .processes) (x .resilience) b place a → StageAllowed (body place x) → Keeps StageAllowed (store x a)
+    by-case (proposalSaid {count} kind station) known = proposal-next x count (number (drop 2 b)) known (value-fits b h kind) (eqb (suc count) (x .processes)) refl
+    by-case (crashSaid {lines} {last} passes) known = with-crash x lines last b known passes
+    by-case (endSaid kind) known = known .well-formed
+    by-case (lineRefused refusal some few) known = tt
 
 end-gives : (s : Stage) (k : ℕ) → StageAllowed s → Gives WellFormed (atEnd s k)
 unfolding atEnd Gives StageAllowed
 end-gives header k g = tt
-end-gives (proposals n t values) k g = tt
-end-gives (failures x lines last) k g = tt
-end-gives (ended x) k g = g
+end-gives (body (Proposals count) x) k g = tt
+end-gives (body (Failures lines last) x) k g = tt
+end-gives (body Ended x) k g = g
 
 ticket-gives : (text : List ℕ) (long : Bool) → Gives WellFormed (cond long (refused 1 0) (readFrom accept atEnd header 1 (linesOf text)))
 unfolding Gives StageAllowed

@@ -5,7 +5,7 @@ use lib.Dec.{leb}
 
 -- What stands for a byte that is no digit.
 abbrev pub noDigit : ℕ
-noDigit = 16
+noDigit = 64
 
 -- The value of a byte as a digit, 0 to 15, or `noDigit`. (48 is 0, 57 is 9, 65 is A, 70 is F.)
 unfoldable pub digitValue : ℕ → ℕ

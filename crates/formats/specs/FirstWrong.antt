@@ -6,7 +6,8 @@ use Prim.Native.Nat.{ℕ, zero, suc, _≤_, _<_}
 use lib.ListN.{length}
 use Rattle.formats.specs.Line.{Line, bytes, noLine, linesOf}
 use Rattle.formats.specs.Step.{next, refuse}
-use Rattle.formats.specs.Accept.{Stage, header, proposals, failures, ended, accept}
+use Rattle.formats.specs.Accept.{Stage, header, body, accept}
+use Rattle.formats.specs.declared.Place.the-variants.{Proposals, Failures, Ended}
 use Rattle.formats.specs.Ticket.{ticketLimit}
 
 -- From stage s the first k of some lines are right and lead to stage u, with these lines left.
@@ -17,9 +18,9 @@ pub data Passed : Stage → List Line → ℕ → Stage → List Line → Type 0
 -- The 04 has not been read.
 unfoldable pub NotEnded : Stage → Type 0
 NotEnded header = Unit {0}
-NotEnded (proposals n t values) = Unit {0}
-NotEnded (failures x lines last) = Unit {0}
-NotEnded (ended x) = ⊥
+NotEnded (body (Proposals count) x) = Unit {0}
+NotEnded (body (Failures lines last) x) = Unit {0}
+NotEnded (body Ended x) = ⊥
 
 -- A text is wrong with this refusal at this line: it is too long (1, of no line); or the lines before this one are right, and this one is no line (2), or is refused
 -- where it stands, or the text is over where it should stand (3).

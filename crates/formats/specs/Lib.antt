@@ -2,6 +2,7 @@ pub mod Digit
 pub mod Line
 pub mod FailureLine
 pub mod Step
+pub mod Says
 pub mod Accept
 pub mod Reading
 pub mod Ticket

@@ -7,7 +7,8 @@ use lib.ListN.{length}
 use Rattle.protocol.specs.Instance.{Instance}
 use Rattle.formats.specs.Line.{linesOf}
 use Rattle.formats.specs.Reading.{Reading, accepted, refused, readFrom}
-use Rattle.formats.specs.Accept.{Stage, header, proposals, failures, ended, accept}
+use Rattle.formats.specs.Accept.{Stage, header, body, accept}
+use Rattle.formats.specs.declared.Place.the-variants.{Proposals, Failures, Ended}
 
 -- The most bytes that a ticket has.
 abbrev pub ticketLimit : ℕ
@@ -16,9 +17,9 @@ ticketLimit = 4096
 -- A text that is over before its 04 is refusal 3, at the line one past the last.
 unfoldable pub atEnd : Stage → ℕ → Reading Instance
 atEnd header k = refused 3 k
-atEnd (proposals n t values) k = refused 3 k
-atEnd (failures x lines last) k = refused 3 k
-atEnd (ended x) k = accepted x
+atEnd (body (Proposals count) x) k = refused 3 k
+atEnd (body (Failures lines last) x) k = refused 3 k
+atEnd (body Ended x) k = accepted x
 
 -- Refusal 1, of no line, is looked at before every line.
 unfoldable pub readTicket : List ℕ → Reading Instance

@@ -1,4 +1,5 @@
 // What document 01 says of texts: tickets, results and refusals, as definitions (specs/), with the cases that pin them. The laws in proofs/ are about these alone.
+// The types are those that the definitions and the code share.
 
 // The bytes of a failure line behind its kind: station, round, step, set, in which bit j - 1 stands for process j, and count.
 pub struct FailureLine {
@@ -7,4 +8,31 @@ pub struct FailureLine {
     pub step: u8,
     pub reached: u64,
     pub count: u8,
+}
+
+// Where in a ticket a line behind the header stands.
+pub enum Place {
+    // After so many proposal lines.
+    Proposals(u8),
+    // After so many failure lines, the last of them of this process (0 if there was none).
+    Failures(u8, u8),
+    // Past the 04.
+    Ended,
+}
+
+// What the header says, n and t, or the number of its refusal.
+pub enum HeaderAnswer {
+    Limits(u8, u8),
+    Refused(u8),
+}
+
+// What a line behind the header says, or the number of its refusal.
+pub enum LineAnswer {
+    // After so many proposals this value; and the next place.
+    Proposal(u8, u32, Place),
+    // A crash; with it there are so many.
+    Crash(u8, FailureLine),
+    // The 04.
+    End,
+    Refused(u8),
 }

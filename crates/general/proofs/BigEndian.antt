@@ -1,10 +1,11 @@
 -- Laws of big-endian numbers: one byte more, the bytes of two and of four written out, the number of four bytes, how large a number so many bytes hold, and that a number comes back from its bytes. Assumes nothing.
-use mathlib.Core.List.{List, [], _∷_, _++_}
-use mathlib.Core.Path.{_≡_, refl, ap, _∙_}
+use mathlib.Core.List.{List, [], _∷_, _++_, append-nil}
+use mathlib.Core.Path.{_≡_, refl, sym, ap, _∙_}
 use Prim.Native.Nat.{ℕ, zero, suc, _+_, _*_, _/_, _%_, _^_, _<_}
-use native.Mathlib.Nat.{zero-add, pow-suc, pow-zero, mul-one, mul-assoc, mul-comm}
+use native.Mathlib.Nat.{zero-add, add-zero, pow-suc, pow-zero, mul-one, mul-assoc, mul-comm}
 use native.Mathlib.Omega.{arith}
-use lib.ListN.{length}
+use lib.ListN.{length, length-append}
+use lib.Seq.{append-snoc}
 use Rattle.general.specs.BigEndian.{number, numberFrom, bytesOf}
 use Rattle.general.proofs.Bytes.{Bytes, below-snoc}
 
@@ -57,3 +58,31 @@ bytes-four v =
 pub number-four : (v w x y : ℕ) → ((v * 256 + w) * 256 + x) * 256 + y ≡ number (v ∷ w ∷ x ∷ y ∷ [])
 unfolding number numberFrom
 number-four v w x y = rw zero-add
+
+-- Bytes come back from their number: those after `before`, which come back from `high`.
+from-number : (bs before : List ℕ) (high : ℕ) → Bytes bs → bytesOf (length before) high ≡ before → bytesOf (length before + length bs) (numberFrom high bs) ≡ before ++ bs
+unfolding numberFrom bytesOf
+from-number [] before high h e = rw (add-zero, append-nil) e
+from-number (b ∷ bs) before high h e =
+    let byte : b < 256 = h 0 in
+    let longer : length (before ++ (b ∷ [])) ≡ suc (length before) = length-append before (b ∷ []) ∙ omega arith in
+    let rest : (high * 256 + b) / 256 ≡ high = omega arith in
+    let last : (high * 256 + b) % 256 ≡ b = omega arith in
+    let back : bytesOf (length (before ++ (b ∷ []))) (high * 256 + b) ≡ before ++ (b ∷ []) = rw (longer, rest, last, e) refl in
+    let size : length before + suc (length bs) ≡ length (before ++ (b ∷ [])) + length bs = omega arith in
+    rw size (from-number bs (before ++ (b ∷ [])) (high * 256 + b) (λ i. h (suc i)) back ∙ append-snoc before b bs)
+
+pub bytes-number : (b : List ℕ) → Bytes b → bytesOf (length b) (number b) ≡ b
+unfolding number bytesOf
+bytes-number b h = rw zero-add at (from-number b [] 0 h refl)
+
+-- What stands above so many bytes plays no part in them.
+pub bytes-low : (width high low : ℕ) → bytesOf width (high * 256 ^ width + low) ≡ bytesOf width low
+unfolding bytesOf
+bytes-low zero high low = refl
+bytes-low (suc width) high low =
+    let above : ℕ = high * 256 ^ width in
+    let whole : high * 256 ^ suc width ≡ above * 256 = ap (λ (p : ℕ). high * p) (pow-suc 256 width) ∙ sym (mul-assoc high (256 ^ width) 256) in
+    let rest : (above * 256 + low) / 256 ≡ above + low / 256 = omega arith in
+    let last : (above * 256 + low) % 256 ≡ low % 256 = omega arith in
+    rw (whole, rest, last) (ap (λ (l : List ℕ). l ++ (low % 256 ∷ [])) (bytes-low width high (low / 256)))

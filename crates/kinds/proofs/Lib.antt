@@ -1,6 +1,3 @@
-pub mod LineKind
-pub mod HeaderLine
-pub mod ProposalLine
-pub mod FailureLine
-pub mod TableStages
-pub mod PlaceStages
+pub mod Fields
+pub mod Answers
+pub mod Whole

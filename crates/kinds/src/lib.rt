@@ -1,58 +1,44 @@
-// One line of a ticket: what each stage makes of it (document 01, 'The ticket' and refusals 3 to 8).
+// What one line of a ticket says where it stands (document 01, 'The ticket' and refusals 3 to 8). A line comes as its size and its last sixteen bytes as two words.
 use formats::FailureLine;
+use formats::HeaderAnswer;
+use formats::LineAnswer;
+use formats::Place;
 ghost use mathlib.Core.Path.{_≡_};
-ghost use mathlib.Core.List.{[], _∷_, _++_};
 ghost use Prim.Native.Nat.{_≤_, _<_};
-ghost use lib.ListN.{take};
-ghost use Rattle.lines.specs.Bytes.{bytesAt, HoldsBytes};
-ghost use Rattle.tables.specs.InstanceReading.{instanceOf};
-ghost use Rattle.tables.specs.declared.InstanceTable.{InstanceTable};
-ghost use Rattle.formats.specs.Step.{next};
-ghost use Rattle.formats.specs.Accept.{acceptHeader, afterProposal, acceptProposal, failureLine, acceptCrash, acceptFailure, accept};
-ghost use Rattle.kinds.specs.declared.Place.the-variants.{Proposals, Failures};
-ghost use Rattle.kinds.specs.Progress.{stageOf, headerStep, stepOf, Storable, HasPlaces, Crashless, Holds};
+ghost use Rattle.lines.specs.Words.{lineBytes};
+ghost use Rattle.formats.specs.Says.{headerSays, afterProposal, proposalSays, failureLine, crashSays, failureSays, lineSays};
+ghost use Rattle.formats.specs.declared.LineAnswer.the-variants.{Proposal};
+ghost use Rattle.kinds.specs.Places.{HasPlaces};
 
-// Where in a ticket the next line stands.
-pub enum Place {
-    // After so many proposal lines.
-    Proposals(u8),
-    // After so many failure lines, the last of them of this process (0 if there was none).
-    Failures(u8, u8),
-    // Past the 04.
-    Ended,
-}
+// The kinds of a ticket's lines, and the bytes that each has.
+const HEADER: u64 = 1;
 
-// What the header says, n and t, or the number of its refusal.
-pub enum HeaderAnswer {
-    Limits(u8, u8),
-    Refused(u8),
-}
+const HEADER_SIZE: usize = 3;
 
-// What a line behind the header says, or the number of its refusal.
-pub enum LineAnswer {
-    // After so many proposals this value; and the next place.
-    Proposal(u8, u32, Place),
-    // A crash; with it there are so many.
-    Crash(u8, FailureLine),
-    // The 04.
-    End,
-    Refused(u8),
-}
+const PROPOSAL: u64 = 2;
+
+const PROPOSAL_SIZE: usize = 6;
+
+const FAILURE: u64 = 3;
+
+const FAILURE_SIZE: usize = 13;
+
+const END: u64 = 4;
+
+const END_SIZE: usize = 1;
 
 // 01, n, t.
-pub fn header_line(text: &[u8], at: usize, size: usize) -> HeaderAnswer
-    requires { ⌜ HoldsBytes (now text) at size ⌝ }
-    ensures { λ r. ⌜ headerStep r ≡ acceptHeader (bytesAt (now (text .entry)) at size) ⌝ }
+pub fn header_line(size: usize, head: u64, tail: u64) -> HeaderAnswer
+    ensures { λ r. ⌜ r ≡ headerSays (lineBytes size head tail) ⌝ }
 {
-    if size != 3 {
+    if size != HEADER_SIZE {
         return HeaderAnswer::Refused(3);
     }
-    let kind = lines::line_byte(text, at, 0);
-    if kind != 1 {
+    if tail / 65536 % 256 != HEADER {
         return HeaderAnswer::Refused(3);
     }
-    let n = lines::line_byte(text, at, 1);
-    let t = lines::line_byte(text, at, 2);
+    let n = (tail / 256 % 256) as u8;
+    let t = (tail % 256) as u8;
     let within = checks::within_limits(n, t);
     if !within {
         return HeaderAnswer::Refused(4);
@@ -63,7 +49,7 @@ pub fn header_line(text: &[u8], at: usize, size: usize) -> HeaderAnswer
 // One proposal more, after `count`; the n-th is the last.
 fn with_value(count: u8, n: u8, value: u32) -> LineAnswer
     requires { ⌜ (count < n) × (n ≤ 64) ⌝ }
-    ensures { λ r. ⌜ Storable (Proposals count) n r × ((x : InstanceTable) → Crashless n x → stepOf r x ≡ next (afterProposal (x .n) (x .t) (take count (x .values) ++ (value ∷ [])))) ⌝ }
+    ensures { λ r. ⌜ r ≡ Proposal count value (afterProposal n count) ⌝ }
 {
     let proposals = count + 1;
     if proposals == n {
@@ -73,30 +59,28 @@ fn with_value(count: u8, n: u8, value: u32) -> LineAnswer
 }
 
 // 02, station, value (4 bytes).
-fn proposal_line(text: &[u8], at: usize, size: usize, count: u8, n: u8) -> LineAnswer
-    requires { ⌜ HoldsBytes (now text) at size ⌝ }
+fn proposal_line(size: usize, head: u64, tail: u64, count: u8, n: u8) -> LineAnswer
     requires { ⌜ (count < n) × (n ≤ 64) ⌝ }
-    ensures { λ r. ⌜ Storable (Proposals count) n r × ((x : InstanceTable) → Crashless n x → stepOf r x ≡ acceptProposal (x .n) (x .t) (take count (x .values)) (bytesAt (now (text .entry)) at size)) ⌝ }
+    ensures { λ r. ⌜ r ≡ proposalSays n count (lineBytes size head tail) ⌝ }
 {
-    if size != 6 {
+    if size != PROPOSAL_SIZE {
         return LineAnswer::Refused(3);
     }
-    let kind = lines::line_byte(text, at, 0);
-    if kind != 2 {
+    if tail / 1099511627776 % 256 != PROPOSAL {
         return LineAnswer::Refused(3);
     }
-    let process = lines::line_byte(text, at, 1);
+    let process = (tail / 4294967296 % 256) as u8;
     if process != count + 1 {
         return LineAnswer::Refused(5);
     }
-    let value = lines::line_word(text, at, 2, 4);
-    with_value(count, n, value as u32)
+    let value = (tail % 4294967296) as u32;
+    with_value(count, n, value)
 }
 
 // A failure line whose kind and length are right, after `lines` of them, the last of process `last`.
 fn crash_line(l: FailureLine, lines: u8, last: u8, n: u8, t: u8) -> LineAnswer
     requires { ⌜ n ≤ 64 ⌝ }
-    ensures { λ r. ⌜ Storable (Failures lines last) n r × ((x : InstanceTable) → x .n ≡ n → x .t ≡ t → stepOf r x ≡ acceptCrash (instanceOf x) lines last l) ⌝ }
+    ensures { λ r. ⌜ r ≡ crashSays n t lines last l ⌝ }
 {
     let placed = checks::places_crash(n, t, last, l);
     if t <= lines {
@@ -114,59 +98,46 @@ fn crash_line(l: FailureLine, lines: u8, last: u8, n: u8, t: u8) -> LineAnswer
 }
 
 // Station, round, step, set (8 bytes) and count of a line of 13 bytes.
-fn failure_fields(text: &[u8], at: usize) -> FailureLine
-    requires { ⌜ HoldsBytes (now text) at 13 ⌝ }
-    ensures { λ r. ⌜ r ≡ failureLine (bytesAt (now (text .entry)) at 13) ⌝ }
+fn failure_fields(head: u64, tail: u64) -> FailureLine
+    ensures { λ r. ⌜ r ≡ failureLine (lineBytes 13 head tail) ⌝ }
 {
     FailureLine {
-        process: lines::line_byte(text, at, 1),
-        round: lines::line_byte(text, at, 2),
-        step: lines::line_byte(text, at, 3),
-        reached: lines::line_word(text, at, 4, 8),
-        count: lines::line_byte(text, at, 12),
+        process: (head / 16777216 % 256) as u8,
+        round: (head / 65536 % 256) as u8,
+        step: (head / 256 % 256) as u8,
+        reached: head % 256 * 72057594037927936 + tail / 256,
+        count: (tail % 256) as u8,
     }
 }
 
 // 03 and a failure line's bytes; or 04, the end.
-fn failure_line(
-    text: &[u8],
-    at: usize,
-    size: usize,
-    lines: u8,
-    last: u8,
-    n: u8,
-    t: u8,
-) -> LineAnswer
-    requires { ⌜ HoldsBytes (now text) at size ⌝ }
+fn failure_line(size: usize, head: u64, tail: u64, lines: u8, last: u8, n: u8, t: u8) -> LineAnswer
     requires { ⌜ n ≤ 64 ⌝ }
-    ensures { λ r. ⌜ Storable (Failures lines last) n r × ((x : InstanceTable) → x .n ≡ n → x .t ≡ t → stepOf r x ≡ acceptFailure (instanceOf x) lines last (bytesAt (now (text .entry)) at size)) ⌝ }
+    ensures { λ r. ⌜ r ≡ failureSays n t lines last (lineBytes size head tail) ⌝ }
 {
-    if size == 1 {
-        let kind = lines::line_byte(text, at, 0);
-        if kind != 4 {
+    if size == END_SIZE {
+        if tail % 256 != END {
             return LineAnswer::Refused(3);
         }
         return LineAnswer::End;
     }
-    if size != 13 {
+    if size != FAILURE_SIZE {
         return LineAnswer::Refused(3);
     }
-    let kind = lines::line_byte(text, at, 0);
-    if kind != 3 {
+    if head / 4294967296 % 256 != FAILURE {
         return LineAnswer::Refused(3);
     }
-    crash_line(failure_fields(text, at), lines, last, n, t)
+    crash_line(failure_fields(head, tail), lines, last, n, t)
 }
 
-// One line behind the header, of `size` bytes whose digits begin at `at`, at a place of a ticket whose table holds n and t.
-pub fn accept_line(text: &[u8], at: usize, size: usize, place: Place, n: u8, t: u8) -> LineAnswer
-    requires { ⌜ HoldsBytes (now text) at size ⌝ }
+// One line behind the header, at a place of a ticket whose header said n and t.
+pub fn accept_line(size: usize, head: u64, tail: u64, place: Place, n: u8, t: u8) -> LineAnswer
     requires { ⌜ HasPlaces place n ⌝ }
-    ensures { λ r. ⌜ Storable place n r × ((x : InstanceTable) → Holds place n t x → stepOf r x ≡ accept (stageOf place x) (bytesAt (now (text .entry)) at size)) ⌝ }
+    ensures { λ r. ⌜ r ≡ lineSays n t place (lineBytes size head tail) ⌝ }
 {
     match place {
-        Place::Proposals(count) => proposal_line(text, at, size, count, n),
-        Place::Failures(lines, last) => failure_line(text, at, size, lines, last, n, t),
+        Place::Proposals(count) => proposal_line(size, head, tail, count, n),
+        Place::Failures(lines, last) => failure_line(size, head, tail, lines, last, n, t),
         Place::Ended => LineAnswer::Refused(3),
     }
 }

@@ -1,7 +1,4 @@
-pub mod KnownDigit
-pub mod DigitCount
-pub mod Bytes
-pub mod FirstLine
+pub mod Words
+pub mod Scanning
 pub mod Answer
 pub mod Read
-pub mod Word

@@ -1,4 +1,3 @@
-pub mod DigitCount
+pub mod Words
 pub mod Read
-pub mod Bytes
-pub mod LineAt
+pub mod Scanned

@@ -1,3 +1,2 @@
 pub mod RanIn
-pub mod Taken
 pub mod Untouched

@@ -2,10 +2,8 @@
 // On standard input a line for each ticket: the output buffer's length in two bytes, then the ticket's bytes.
 // The second implementation writes the tickets and what is to be written for them: `make-tickets` of second/.
 ghost use mathlib.Core.Path.{_≡_};
-ghost use mathlib.Core.List.{_++_};
-ghost use Prim.Native.Nat.{_+_, _≤_, min};
+ghost use Prim.Native.Nat.{_+_, _*_, _≤_, min};
 ghost use lib.ListN.{length, take, drop};
-ghost use Rattle.lines.specs.Bytes.{bytesAt, HoldsBytes};
 ghost use Rattle.replay.specs.RanIn.{RanIn};
 ghost use Rattle.replay.specs.Untouched.{untouched};
 use lines::Cursor;
@@ -86,6 +84,13 @@ fn answer(text: &[u8], size: usize, room: usize)
     io::write_all(1, b"\n");
 }
 
+// A byte as a number.
+fn wide(x: u8) -> usize
+    ensures { λ r. ⌜ r ≤ 255 ⌝ }
+{
+    x as usize
+}
+
 // The lesser of two numbers.
 fn least(a: usize, b: usize) -> usize
     ensures { λ r. ⌜ r ≡ min a b ⌝ }
@@ -93,22 +98,26 @@ fn least(a: usize, b: usize) -> usize
     if a < b { a } else { b }
 }
 
-// The bytes of a line from byte 2 on, `size` of them, to the front of a buffer.
-fn take_ticket(text: &[u8], at: usize, size: usize, ticket: &mut [u8])
-    requires { ⌜ HoldsBytes (now text) at (2 + size) ⌝ }
-    requires { ⌜ size ≤ length (now ticket) ⌝ }
-    ensures { λ r. ⌜ now (ticket .exit) ≡ bytesAt (now (text .entry)) (at + 4) size ++ drop size (now (ticket .entry)) ⌝ }
+// The byte that two digits stand for. (A letter has bit 6, and its low bits count from 1.) What it gives of other characters no line has.
+fn byte_of(high: u8, low: u8) -> u8 {
+    ((high % 16 + high / 64 * 9) % 16 * 16) + (low % 16 + low / 64 * 9) % 16
+}
+
+// The bytes of `size` pairs of digits from a place on, to the front of a buffer. What they are is seen in what the program writes.
+fn take_bytes(text: &[u8], at: usize, size: usize, bytes: &mut [u8])
+    requires { ⌜ at + 2 * size ≤ length (now text) ⌝ }
+    requires { ⌜ size ≤ length (now bytes) ⌝ }
 {
     let mut k = 0;
     while k < size {
-        ticket[k] = lines::line_byte(text, at, 2 + k);
+        bytes[k] = byte_of(text[at + 2 * k], text[at + 2 * k + 1]);
         k += 1;
     }
 }
 
 // Replays the ticket of one line. Answers false where the line is too short for the length, or its ticket too long for the buffer.
 fn replay_line(text: &[u8], at: usize, size: usize) -> bool
-    requires { ⌜ HoldsBytes (now text) at size ⌝ }
+    requires { ⌜ at + 2 * size ≤ length (now text) ⌝ }
 {
     if size < 2 {
         return false;
@@ -117,19 +126,30 @@ fn replay_line(text: &[u8], at: usize, size: usize) -> bool
     if TICKET_ROOM < count {
         return false;
     }
-    let room = least(lines::line_word(text, at, 0, 2) as usize, OUTPUT_ROOM);
+    let mut room = [0u8; 2];
+    take_bytes(text, at, 2, &mut room);
     let mut ticket = [0u8; TICKET_ROOM];
-    take_ticket(text, at, count, &mut ticket);
-    answer(&ticket, count, room);
+    take_bytes(text, at + 4, count, &mut ticket);
+    answer(
+        &ticket,
+        count,
+        least(wide(room[0]) * 256 + wide(room[1]), OUTPUT_ROOM),
+    );
     true
 }
 
 // Replays line after line, up to the end or to the first that cannot be replayed.
 fn replay(text: &[u8]) {
-    let mut here = Cursor::new();
+    let mut here = Cursor { at: 0 };
     while here.at < text.len() {
         let at = here.at;
-        let LineRead::Line { size, next } = here.read(text) else {
+        let LineRead::Line {
+            size,
+            head,
+            tail,
+            next,
+        } = here.read(text)
+        else {
             return;
         };
         if !replay_line(text, at, size) {

@@ -1,28 +1,27 @@
 -- What the header makes of a ticket, a law for each answer. Assumes nothing.
-use mathlib.Core.List.{List, []}
-use mathlib.Core.Path.{_≡_, ap, _∙_}
+use mathlib.Core.List.{List}
+use mathlib.Core.Path.{_≡_, sym, ap, _∙_}
+use mathlib.Core.Bool.{true}
 use Prim.Native.Nat.{ℕ, _≤_, _<_}
 use native.Mathlib.Omega.{arith}
-use lib.ListN.{length, drop}
-use borrow.Author.Tests.{le-ltb, lt-ltb}
+use borrow.Author.Tests.{lt-ltb, le-ltb}
+use lib.ListN.{length, getD, drop}
+use Rattle.protocol.specs.Instance.{withinLimits}
 use Rattle.formats.specs.Line.{linesOf}
-use Rattle.lines.specs.Bytes.{bytesAt}
+use Rattle.formats.specs.Reading.{refused, proceed, readFrom}
+use Rattle.formats.specs.Says.{headerSays}
+use Rattle.formats.specs.Accept.{header, begin, accept}
+use Rattle.formats.specs.Ticket.{ticketLimit, atEnd, readTicket}
+use Rattle.formats.specs.declared.HeaderAnswer.{HeaderAnswer}
+use Rattle.formats.specs.declared.HeaderAnswer.the-variants.{Limits, Refused}
+use Rattle.formats.proofs.LineCases.{HeaderCase, limitsSaid, headerRefused, header-case}
+use Rattle.lines.specs.Words.{lineBytes}
 use Rattle.lines.specs.Read.{readAt}
-use Rattle.lines.specs.LineAt.{LineAt}
 use Rattle.lines.specs.declared.Cursor.{Cursor}
 use Rattle.lines.specs.declared.LineRead.the-variants.{NoLine}
-use Rattle.lines.proofs.Read.{read-no-line, lines-at-end}
-use Rattle.formats.specs.Step.{next}
-use Rattle.formats.specs.Reading.{refused, proceed, readFrom}
-use Rattle.formats.specs.Accept.{header, proposals, acceptHeader, accept}
-use Rattle.formats.specs.Ticket.{ticketLimit, atEnd, readTicket}
+use Rattle.lines.proofs.Read.{LineAt, read-no-line, lines-at-end}
+use Rattle.kinds.proofs.Whole.{header-words}
 use Rattle.ticket.specs.Header.{AfterHeader}
-use Rattle.kinds.specs.Progress.{headerStep}
-use Rattle.kinds.specs.declared.HeaderAnswer.{HeaderAnswer}
-use Rattle.kinds.specs.declared.HeaderAnswer.the-variants.{Limits, Refused}
-use Rattle.formats.proofs.Keeping.{Keeps}
-use Rattle.protocol.proofs.Limits.{limits-pass}
-use Rattle.formats.proofs.WellFormed.{StageAllowed, header-keeps}
 
 pub too-long : (text : List ℕ) → ticketLimit < length text → readTicket text ≡ refused 1 0
 unfolding readTicket
@@ -44,25 +43,35 @@ module _ (text : List ℕ) (short : length text ≤ ticketLimit) where
       whole ∙ ap (readFrom accept atEnd header 1) (rest .1)
 
   -- A line of bytes, and the answer to it as `header_line` gives it.
-  module _ (size : ℕ) (then : Cursor) (line : LineAt text 0 size then)
-      (answer : HeaderAnswer) (given : headerStep answer ≡ acceptHeader (bytesAt text 0 size)) where
-    proceeds : readTicket text ≡ proceed (headerStep answer) 1 (λ s. readFrom accept atEnd s 2 (linesOf (drop (then .at) text)))
+  module _ (size head tail : ℕ) (then : Cursor) (line : LineAt text 0 size head tail then) (answer : HeaderAnswer) (given : answer ≡ headerSays (lineBytes size head tail)) where
+    says : answer ≡ headerSays (line .said)
+    says = given ∙ header-words (line .said) (line .each) size head tail (line .sized) (line .upper) (line .lower)
+
+    proceeds : readTicket text ≡ proceed (begin answer) 1 (λ s. readFrom accept atEnd s 2 (linesOf (drop (then .at) text)))
     unfolding readFrom accept
-    proceeds = rw given (whole ∙ ap (readFrom accept atEnd header 1) (line .lines))
+    proceeds = rw says (whole ∙ ap (readFrom accept atEnd header 1) (line .lines))
 
     pub header-refused : {number : ℕ} → answer ≡ Refused number → readTicket text ≡ refused number 1
-    unfolding proceed
+    unfolding proceed begin
     header-refused e = rw e at proceeds
 
+    within : {n t : ℕ} → Limits n t ≡ headerSays (line .said) → withinLimits n t ≡ true
+    within {n} {t} e = by-case (header-case (line .said)) e
+      where
+        by-case : {a : HeaderAnswer} → HeaderCase (line .said) a → Limits n t ≡ a → withinLimits n t ≡ true
+        by-case (limitsSaid kind limits) h =
+            let en : n ≡ getD (line .said) 1 0 = cc in
+            let et : t ≡ getD (line .said) 2 0 = cc in
+            rw (en, et) limits
+        by-case (headerRefused refusal some few) h = absurd (let z : _≡_ {A = ℕ} 0 1 = cc in let f : ⊥ = omega arith in f)
+
     pub header-says : {n t : ℕ} → answer ≡ Limits n t → AfterHeader text n t (then .at)
-    unfolding proceed Keeps StageAllowed
+    unfolding proceed begin
     header-says {n} {t} e =
-        let step : next (proposals n t []) ≡ acceptHeader (bytesAt text 0 size) = rw e at given in
-        let known = rw (← step) at (header-keeps (bytesAt text 0 size)) in
         record {
           short = short;
           behind = omega (arith, line .after);
           inside = line .inside;
-          limits = limits-pass n t (known .limits);
+          limits = within (sym e ∙ says);
           same = rw e at proceeds;
         }

@@ -1,3 +1,5 @@
 pub mod CrashTable
+pub mod Stored
+pub mod Fitting
 pub mod HeaderAnswers
 pub mod Reached

@@ -1,64 +1,41 @@
 -- Where the reading of a ticket stands between two lines behind its header, and what the next line makes of it. Assumes nothing.
 use mathlib.Core.List.{List}
-use mathlib.Core.Path.{_≡_, refl, sym, ap, _∙_, subst}
-use Prim.Native.Nat.{ℕ, suc, _+_, _≤_, _<_, min}
+use mathlib.Core.Path.{_≡_, refl, sym, ap, subst, _∙_}
+use Prim.Native.Nat.{ℕ, suc, _+_, _≤_, _<_}
 use native.Mathlib.Numerals.{add-one}
 use native.Mathlib.Omega.{arith}
-use lib.ListN.{length, drop, replicate, length-take, length-set}
-use Rattle.general.proofs.Bytes.{Bytes}
-use Rattle.formats.specs.Line.{linesOf}
-use Rattle.lines.specs.Bytes.{bytesAt}
-use Rattle.lines.specs.Read.{readAt}
-use Rattle.lines.specs.LineAt.{LineAt}
-use Rattle.lines.specs.declared.Cursor.{Cursor}
-use Rattle.lines.specs.declared.LineRead.the-variants.{NoLine}
-use Rattle.lines.proofs.Bytes.{bytesAt-small}
-use Rattle.lines.proofs.Read.{read-no-line, lines-at-end}
+use mathlib.Core.Bool.{Bool, true, false, cond}
+use borrow.Author.Tests.{eqb-false}
+use lib.Dec.{eqb}
+use lib.ListN.{length, drop, replicate, length-set}
 use Rattle.protocol.specs.Instance.{Instance}
+use Rattle.protocol.proofs.Limits.{limits-hold}
 use Rattle.tables.specs.InstanceReading.{instanceOf}
 use Rattle.tables.specs.declared.InstanceTable.{InstanceTable}
-use Rattle.formats.specs.Step.{next}
+use Rattle.formats.specs.Line.{linesOf}
 use Rattle.formats.specs.Reading.{refused, proceed, readFrom}
-use Rattle.formats.specs.Accept.{failures, accept}
+use Rattle.formats.specs.Says.{afterProposal, lineSays}
+use Rattle.formats.specs.Accept.{body, withProposal, withCrash, store, accept}
 use Rattle.formats.specs.Ticket.{atEnd, readTicket}
-use Rattle.ticket.specs.Header.{AfterHeader}
-use Rattle.kinds.specs.Progress.{stageOf, stepOf, Storable, HasPlaces, Holds, withValue}
 use Rattle.formats.specs.declared.FailureLine.{FailureLine}
-use Rattle.kinds.specs.declared.Place.{Place}
-use Rattle.kinds.specs.declared.Place.the-variants.{Proposals, Failures, Ended}
-use Rattle.kinds.specs.declared.LineAnswer.{LineAnswer}
-use Rattle.kinds.specs.declared.LineAnswer.the-variants.{Proposal, Crash, End, Refused}
-use Rattle.formats.proofs.Keeping.{Keeps}
+use Rattle.formats.specs.declared.Place.{Place}
+use Rattle.formats.specs.declared.Place.the-variants.{Proposals, Failures, Ended}
+use Rattle.formats.specs.declared.LineAnswer.{LineAnswer}
+use Rattle.formats.specs.declared.LineAnswer.the-variants.{Proposal, Crash, End, Refused}
+use Rattle.lines.specs.Words.{lineBytes}
+use Rattle.lines.specs.Read.{readAt}
+use Rattle.lines.specs.declared.Cursor.{Cursor}
+use Rattle.lines.specs.declared.LineRead.the-variants.{NoLine}
+use Rattle.lines.proofs.Read.{LineAt, read-no-line, lines-at-end}
+use Rattle.kinds.specs.Places.{HasPlaces}
+use Rattle.kinds.proofs.Whole.{line-words}
+use Rattle.ticket.specs.Header.{AfterHeader}
+use Rattle.ticket.specs.Answer.{readingFrom}
+use Rattle.ticket.specs.declared.Answer.{Answer}
+use Rattle.ticket.specs.Progress.{soFar, stageOf, endAnswer}
 use Rattle.ticket.proofs.CrashTable.{stored, Full, full-roomy, full-stored, crash-stored}
-use Rattle.formats.proofs.WellFormed.{StageAllowed, first-allowed, stage-keeps}
-
--- A stage that is allowed has its places in the table.
-pub allowed-places : (place : Place) (table : InstanceTable) → length (table .values) ≡ 64 → StageAllowed (stageOf place table) → HasPlaces place (table .n)
-unfolding StageAllowed stageOf HasPlaces instanceOf
-allowed-places (Proposals count) table h g =
-    let few : min count (length (table .values)) < table .n = rw length-take at (g .some-missing) in
-    (omega arith, g .limits .at-most-64)
-allowed-places (Failures lines last) table h g = g .well-formed .at-most-64
-allowed-places Ended table h g = tt
-
--- Up to the failure lines no process has a crash round.
-unfoldable pub NoCrash : Place → InstanceTable → Type 0
-NoCrash (Proposals count) table = table .rounds ≡ replicate 64 0
-NoCrash (Failures lines last) table = Unit {0}
-NoCrash Ended table = Unit {0}
-
-no-rounds : (place : Place) (table : InstanceTable) → table .rounds ≡ replicate 64 0 → NoCrash place table
-unfolding NoCrash
-no-rounds (Proposals count) table h = h
-no-rounds (Failures lines last) table h = tt
-no-rounds Ended table h = tt
-
--- So the table holds what is known at its place.
-held : (place : Place) (table : InstanceTable) → length (table .values) ≡ 64 → NoCrash place table → Holds place (table .n) (table .t) table
-unfolding NoCrash Holds
-held (Proposals count) table h g = record { processes = refl; places = h; no-rounds = g }
-held (Failures lines last) table h g = (refl, refl)
-held Ended table h g = tt
+use Rattle.ticket.proofs.Stored.{withValue, none-so-far, proposal-so-far}
+use Rattle.ticket.proofs.Fitting.{CrashFits, Fits, line-fits}
 
 -- The reading stands at line k, which begins at `at`: what is left is read on from here.
 pub record Reached (text : List ℕ) (table : InstanceTable) (at : ℕ) (place : Place) (k : ℕ) : Type 0 where
@@ -66,8 +43,8 @@ pub record Reached (text : List ℕ) (table : InstanceTable) (at : ℕ) (place :
   pub inside : at ≤ length text
   pub counted : k ≤ at + 1
   pub full : Full table
-  pub no-crash : NoCrash place table
-  pub allowed : StageAllowed (stageOf place table)
+  pub few : table .n ≤ 64
+  pub places : HasPlaces place (table .n)
   pub same : readTicket text ≡ readFrom accept atEnd (stageOf place table) k (linesOf (drop at text))
 
 -- The same table at the same place.
@@ -76,22 +53,47 @@ same-place e p h = rw (e, p) h
 
 pub reached-start : (text : List ℕ) (table : InstanceTable) (at : ℕ) → AfterHeader text (table .n) (table .t) at → Full table → table .rounds ≡ replicate 64 0
     → Reached text table at (Proposals 0) 2
-unfolding stageOf StageAllowed
+unfolding HasPlaces
 reached-start text table at header g none =
+    let limits = limits-hold (table .n) (table .t) (header .limits) in
     record {
       short = header .short;
       inside = header .inside;
       counted = omega (arith, header .behind);
       full = g;
-      no-crash = no-rounds (Proposals 0) table none;
-      allowed = first-allowed (table .n) (table .t) (header .limits);
-      same = header .same;
+      few = limits .at-most-64;
+      places = (omega (arith, limits .some-process), limits .at-most-64);
+      same = rw (none-so-far table none (limits .at-most-64)) (header .same);
     }
 
+-- What a text that is over is answered with.
+end-reading : (place : Place) (table : InstanceTable) (k : ℕ) → readingFrom (endAnswer place k) table ≡ atEnd (stageOf place table) k
+unfolding endAnswer atEnd soFar
+end-reading (Proposals count) table k = refl
+end-reading (Failures lines last) table k = refl
+end-reading Ended table k = refl
+
+-- n and t are the table's at every place.
+same-limits : (place : Place) (table : InstanceTable) (b : List ℕ)
+    → lineSays (soFar place table .processes) (soFar place table .resilience) place b ≡ lineSays (table .n) (table .t) place b
+unfolding soFar instanceOf
+same-limits (Proposals count) table b = refl
+same-limits (Failures lines last) table b = refl
+same-limits Ended table b = refl
+
+-- The places behind a proposal.
+places-after : (n count : ℕ) → count < n → n ≤ 64 → (last : Bool) → eqb (suc count) n ≡ last → HasPlaces (cond last (Failures 0 0) (Proposals (suc count))) n
+unfolding HasPlaces
+places-after n count left few true e = few
+places-after n count left few false e =
+    let other : suc count ≡ n → ⊥ = eqb-false (suc count) n e in
+    (omega (arith, other), few)
+
 module _ (text : List ℕ) (table : InstanceTable) (at : ℕ) (place : Place) (k : ℕ) (here : Reached text table at place k) where
-  pub reached-end : length text ≤ at → atEnd (stageOf place table) k ≡ readTicket text
+  pub reached-end : length text ≤ at → (answer : Answer) → answer ≡ endAnswer place k → readingFrom answer table ≡ readTicket text
   unfolding readFrom
-  reached-end h = sym (here .same ∙ ap (readFrom accept atEnd (stageOf place table) k) (lines-at-end text at h))
+  reached-end h answer e =
+      rw e (end-reading place table k) ∙ sym (here .same ∙ ap (readFrom accept atEnd (stageOf place table) k) (lines-at-end text at h))
 
   pub reached-no-line : at < length text → NoLine ≡ readAt text at → refused 2 k ≡ readTicket text
   unfolding readFrom
@@ -99,70 +101,82 @@ module _ (text : List ℕ) (table : InstanceTable) (at : ℕ) (place : Place) (k
       let rest = read-no-line text at (sym e) h in
       sym (here .same ∙ ap (readFrom accept atEnd (stageOf place table) k) (rest .1))
 
-  -- A line of bytes at this place.
-  module _ (size : ℕ) (then : Cursor) (line : LineAt text at size then) where
-    line-bytes : Bytes (bytesAt text at size)
-    line-bytes = bytesAt-small text at size (line .holds)
+  -- A line of bytes at this place, and the answer to it as `accept_line` gives it.
+  module _ (size head tail : ℕ) (then : Cursor) (line : LineAt text at size head tail then) (answer : LineAnswer)
+      (given : answer ≡ lineSays (table .n) (table .t) place (lineBytes size head tail)) where
+    says : answer ≡ lineSays (table .n) (table .t) place (line .said)
+    says = given ∙ line-words (line .said) (line .each) size head tail (line .sized) (line .upper) (line .lower) (table .n) (table .t) place
 
-    proceeds : readTicket text
-        ≡ proceed (accept (stageOf place table) (bytesAt text at size)) k (λ s. readFrom accept atEnd s (suc k) (linesOf (drop (then .at) text)))
-    unfolding readFrom
-    proceeds = here .same ∙ ap (readFrom accept atEnd (stageOf place table) k) (line .lines)
+    fits : (said : LineAnswer) → answer ≡ said → Fits place (table .n) said
+    fits said e = subst (Fits place (table .n)) (sym says ∙ e) (line-fits (table .n) (table .t) place (line .said))
 
-    -- The stores keep the places.
-    full-value : (count v : ℕ) → Full (withValue table count v)
-    full-value count v = let f = here .full in
-        record { all-values = rw length-set (f .all-values); all-rounds = f .all-rounds; all-steps = f .all-steps; all-sets = f .all-sets; all-counts = f .all-counts }
+    -- What the line says is stored.
+    stores : (said : LineAnswer) → answer ≡ said
+        → readTicket text ≡ proceed (store (soFar place table) said) k (λ s. readFrom accept atEnd s (suc k) (linesOf (drop (then .at) text)))
+    unfolding readFrom accept
+    stores said e =
+        let at-stage : lineSays (soFar place table .processes) (soFar place table .resilience) place (line .said) ≡ said = same-limits place table (line .said) ∙ sym says ∙ e in
+        here .same ∙ ap (readFrom accept atEnd (stageOf place table) k) (line .lines) ∙ rw at-stage
 
     -- Where the line leads.
-    goes-on : (to : Place) (after : InstanceTable) → next (stageOf to after) ≡ accept (stageOf place table) (bytesAt text at size)
-        → Full after → NoCrash to after → Reached text after (then .at) to (k + 1)
-    unfolding proceed Keeps
-    goes-on to after step g none =
+    goes-on : (to : Place) (after : InstanceTable) → after .n ≡ table .n → Full after → HasPlaces to (table .n)
+        → readTicket text ≡ readFrom accept atEnd (stageOf to after) (suc k) (linesOf (drop (then .at) text)) → Reached text after (then .at) to (k + 1)
+    goes-on to after same-n g places same =
         record {
           short = here .short;
           inside = line .inside;
-          counted = omega arith;
+          counted = omega (arith, line .after, line .some, here .counted);
           full = g;
-          no-crash = none;
-          allowed = rw (← step) at (stage-keeps (stageOf place table) (bytesAt text at size) line-bytes (here .allowed));
-          same = rw (add-one) (proceeds ∙ rw (← step));
+          few = omega (arith, here .few);
+          places = rw same-n places;
+          same = rw add-one same;
         }
 
-    -- An answer to the line, as `accept_line` gives it.
-    module _ (answer : LineAnswer)
-        (given : Storable place (table .n) answer × ((x : InstanceTable) → Holds place (table .n) (table .t) x → stepOf answer x ≡ accept (stageOf place x) (bytesAt text at size))) where
-      step : (said : LineAnswer) → answer ≡ said → stepOf said table ≡ accept (stageOf place table) (bytesAt text at size)
-      step said e = ap (λ (a : LineAnswer). stepOf a table) (sym e) ∙ given .1 table (held place table (here .full .all-values) (here .no-crash))
+    -- After so many proposals.
+    proposals-here : {count : ℕ} → place ≡ Proposals count → (count < table .n) × (table .n ≤ 64)
+    unfolding HasPlaces
+    proposals-here e = subst (λ (p : Place). HasPlaces p (table .n)) e (here .places)
 
-      storable : (said : LineAnswer) → answer ≡ said → Storable place (table .n) said
-      storable said e = subst (Storable place (table .n)) e (given .0)
+    pub proposal-place : {count v : ℕ} {to : Place} → answer ≡ Proposal count v to → count < 64
+    unfolding Fits
+    proposal-place e = let known = proposals-here (fits _ e .0) in omega (arith, known)
 
-      pub proposal-place : {count v : ℕ} {to : Place} → answer ≡ Proposal count v to → count < 64
-      proposal-place e = let known = storable _ e in omega (arith, known .1)
+    pub crash-place : {lines : ℕ} {l : FailureLine} → answer ≡ Crash lines l → CrashFits place (table .n) lines l
+    unfolding Fits
+    crash-place e = fits _ e
 
-      pub crash-place : {lines : ℕ} {l : FailureLine} → answer ≡ Crash lines l → (1 ≤ l .process) × (l .process ≤ table .n) × (table .n ≤ 64) × (1 ≤ l .round)
-      crash-place e = storable _ e
+    pub reached-refused : {number : ℕ} → answer ≡ Refused number → refused number k ≡ readTicket text
+    unfolding proceed store
+    reached-refused e = sym (stores _ e)
 
-      pub reached-refused : {number : ℕ} → answer ≡ Refused number → refused number k ≡ readTicket text
-      unfolding proceed
-      reached-refused e = sym (proceeds ∙ rw (← step _ e))
+    full-value : (count v : ℕ) → Full (withValue table count v)
+    full-value count v =
+        let f = here .full in
+        record { all-values = rw length-set (f .all-values); all-rounds = f .all-rounds; all-steps = f .all-steps; all-sets = f .all-sets; all-counts = f .all-counts }
 
-      pub reached-proposal : {count v : ℕ} {to : Place} → answer ≡ Proposal count v to → Reached text (withValue table count v) (then .at) to (k + 1)
-      unfolding NoCrash
-      reached-proposal {count} {v} {to} e =
-          let at-count : place ≡ Proposals count = storable _ e .0 in
-          let none : table .rounds ≡ replicate 64 0 = subst (λ (p : Place). NoCrash p table) at-count (here .no-crash) in
-          goes-on to (withValue table count v) (step _ e) (full-value count v) (no-rounds to (withValue table count v) none)
+    pub reached-proposal : {count v : ℕ} {to : Place} → answer ≡ Proposal count v to → Reached text (withValue table count v) (then .at) to (k + 1)
+    unfolding Fits proceed store afterProposal
+    reached-proposal {count} {v} {to} e =
+        let (now, next) = fits _ e in
+        let (left, few) = proposals-here now in
+        let inside : count < length (table .values) = omega (arith, here .full .all-values) in
+        let described : soFar to (withValue table count v) ≡ withProposal (soFar place table) v = rw (now, next) (proposal-so-far table count v inside) in
+        goes-on to (withValue table count v) refl (full-value count v) (rw next (places-after (table .n) count left few (eqb (suc count) (table .n)) refl))
+        (stores _ e ∙ rw described refl)
 
-      pub reached-crash : {lines : ℕ} {l : FailureLine} → answer ≡ Crash lines l → Reached text (stored table l) (then .at) (Failures lines (l .process)) (k + 1)
-      unfolding NoCrash stageOf
-      reached-crash {lines} {l} e =
-          let inside = crash-place e in
-          let after = crash-stored table l (full-roomy table (here .full) (inside .2)) (inside .0) (inside .1) (inside .3) in
-          goes-on (Failures lines (l .process)) (stored table l) (ap (λ (x : Instance). next (failures x lines (l .process))) after ∙ step _ e)
-          (full-stored table l (here .full)) tt
+    -- Among the failure lines the table is whole.
+    whole-table : {lines last : ℕ} → place ≡ Failures lines last → soFar place table ≡ instanceOf table
+    unfolding soFar
+    whole-table e = rw e refl
 
-      pub reached-ended : answer ≡ End → Reached text table (then .at) Ended (k + 1)
-      unfolding NoCrash stageOf
-      reached-ended e = goes-on Ended table (step _ e) (here .full) tt
+    pub reached-crash : {lines : ℕ} {l : FailureLine} → answer ≡ Crash lines l → Reached text (stored table l) (then .at) (Failures lines (l .process)) (k + 1)
+    unfolding proceed store HasPlaces soFar
+    reached-crash {lines} {l} e =
+        let fit = crash-place e in
+        let after = crash-stored table l (full-roomy table (here .full) (here .few)) (fit .first) (fit .last) (fit .round) in
+        let described : soFar (Failures lines (l .process)) (stored table l) ≡ withCrash (soFar place table) l = after ∙ ap (λ (x : Instance). withCrash x l) (sym (whole-table (fit .at))) in
+        goes-on (Failures lines (l .process)) (stored table l) refl (full-stored table l (here .full)) (here .few) (stores _ e ∙ rw (sym described) refl)
+
+    pub reached-ended : answer ≡ End → Reached text table (then .at) Ended (k + 1)
+    unfolding Fits proceed store HasPlaces soFar
+    reached-ended e = goes-on Ended table refl (here .full) tt (stores _ e ∙ rw (whole-table (fits _ e .2)) refl)

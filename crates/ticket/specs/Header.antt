@@ -7,7 +7,8 @@ use lib.ListN.{length, drop}
 use Rattle.protocol.specs.Instance.{withinLimits}
 use Rattle.formats.specs.Line.{linesOf}
 use Rattle.formats.specs.Reading.{refused, readFrom}
-use Rattle.formats.specs.Accept.{proposals, accept}
+use Rattle.formats.specs.Accept.{body, unproposed, accept}
+use Rattle.formats.specs.declared.Place.the-variants.{Proposals}
 use Rattle.formats.specs.Ticket.{ticketLimit, atEnd, readTicket}
 use Rattle.ticket.specs.declared.HeaderRead.{HeaderRead}
 use Rattle.ticket.specs.declared.HeaderRead.the-variants.{Limits, Refused}
@@ -18,7 +19,7 @@ pub record AfterHeader (text : List ℕ) (n t at : ℕ) : Type 0 where
   pub behind : 1 ≤ at
   pub inside : at ≤ length text
   pub limits : withinLimits n t ≡ true
-  pub same : readTicket text ≡ readFrom accept atEnd (proposals n t []) 2 (linesOf (drop at text))
+  pub same : readTicket text ≡ readFrom accept atEnd (body (Proposals 0) (unproposed n t)) 2 (linesOf (drop at text))
 
 -- What reading the header answers.
 abbrev pub HeaderSays : List ℕ → HeaderRead → Type 0

@@ -1,15 +1,14 @@
 // Reading a ticket (document 01, 'The ticket'): from any bytes to an instance or a refusal.
-use kinds::HeaderAnswer;
-use kinds::LineAnswer;
-use kinds::Place;
+use formats::HeaderAnswer;
+use formats::LineAnswer;
+use formats::Place;
 use lines::Cursor;
 use lines::LineRead;
 use tables::InstanceTable;
 ghost use mathlib.Core.Path.{_≡_};
-ghost use Rattle.tables.specs.declared.InstanceTable.{InstanceTable};
-ghost use Rattle.formats.specs.Ticket.{atEnd, readTicket};
-ghost use Rattle.kinds.specs.Progress.{stageOf};
-ghost use Rattle.ticket.specs.Answer.{readingFrom, readingOf};
+ghost use Rattle.formats.specs.Ticket.{readTicket};
+ghost use Rattle.ticket.specs.Progress.{endAnswer};
+ghost use Rattle.ticket.specs.Answer.{readingOf};
 ghost use Rattle.ticket.specs.Header.{AfterHeader, HeaderSays};
 
 // The most bytes that a ticket has.
@@ -44,10 +43,16 @@ pub fn read_header(text: &[u8]) -> HeaderRead
     if text.len() == 0 {
         return HeaderRead::Refused(3, 1);
     }
-    let LineRead::Line { size, next } = reader::read_line(text, 0) else {
+    let LineRead::Line {
+        size,
+        head,
+        tail,
+        next,
+    } = reader::read_line(text, 0)
+    else {
         return HeaderRead::Refused(2, 1);
     };
-    let answer = kinds::header_line(text, 0, size);
+    let answer = kinds::header_line(size, head, tail);
     match answer {
         HeaderAnswer::Limits(n, t) => HeaderRead::Limits(n, t, next.at),
         HeaderAnswer::Refused(number) => HeaderRead::Refused(number, 1),
@@ -56,7 +61,7 @@ pub fn read_header(text: &[u8]) -> HeaderRead
 
 // What a text that is over at line k is answered with: accepted past its 04, and otherwise refusal 3.
 fn at_end(place: Place, k: u16) -> Answer
-    ensures { λ r. ⌜ ((x : InstanceTable) → readingFrom r x ≡ atEnd (stageOf place x) k) ⌝ }
+    ensures { λ r. ⌜ r ≡ endAnswer place k ⌝ }
 {
     let Place::Ended = place else {
         return Answer::Refused(3, k);
@@ -85,10 +90,16 @@ pub fn read_rest(text: &[u8], n: u8, t: u8, at: usize) -> TicketRead
         if text.len() <= here.at {
             break at_end(place, k);
         }
-        let LineRead::Line { size, next } = reader::read_line(text, here.at) else {
+        let LineRead::Line {
+            size,
+            head,
+            tail,
+            next,
+        } = reader::read_line(text, here.at)
+        else {
             break Answer::Refused(2, k);
         };
-        match kinds::accept_line(text, here.at, size, place, table.n, table.t) {
+        match kinds::accept_line(size, head, tail, place, table.n, table.t) {
             LineAnswer::Proposal(count, value, to) => {
                 table.values[count as usize] = value;
                 place = to;

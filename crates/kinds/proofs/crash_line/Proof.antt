@@ -4,7 +4,7 @@ use native.Mathlib.Omega.{arith}
 use borrow.Author.Tests.{not-false}
 use borrow.Author.Needs.{needs}
 use Rattle.formats.proofs.CrashAllowed.{crash-placed}
-use Rattle.kinds.proofs.FailureLine.{crash-many, crash-unplaced, crash-unsuited, crash-next}
+use Rattle.kinds.proofs.Answers.{crash-many, crash-unplaced, crash-unsuited, crash-next}
 use Rattle.kinds.proofs.crash_line.Statement.{statement}
 use Rattle.kinds.proofs.crash_line.Tie as tie
 
@@ -12,12 +12,10 @@ places-crash-requires : tie.Need-places-crash-requires
 places-crash-requires c κs = search needs
 
 returns : tie.Need-returns
-returns c = (tt, λ x en et. sym (crash-many x _ _ _ _ _ en et (omega arith)))
+returns c = sym (crash-many _ _ _ _ _ (omega arith))
 
 returns-2 : tie.Need-returns-2
-returns-2 c =
-    let placed = c .before .before in
-    (tt, λ x en et. sym (crash-unplaced x _ _ _ _ _ en et (omega arith) _ (placed .places-crash .ensures) (c .if2 .taken)))
+returns-2 c = sym (crash-unplaced _ _ _ _ _ (omega arith) _ (c .before .before .places-crash .ensures) (c .if2 .taken))
 
 suits-step-requires : tie.Need-suits-step-requires
 suits-step-requires c κs =
@@ -26,27 +24,16 @@ suits-step-requires c κs =
 
 returns-3 : tie.Need-returns-3
 returns-3 c =
-    let suits = c .before in
-    let passed = suits .before in
-    let placed = passed .before .before in (
-      tt,
-      λ x en et. sym (crash-unsuited x _ _ _ _ _ en et (omega arith) _ (placed .places-crash .ensures) (passed .if2 .left) _ (suits .suits-step .ensures)
-          (c .if3 .taken)),
-    )
+    let passed = c .before .before in
+    sym (crash-unsuited _ _ _ _ _ (omega arith) _ (passed .before .before .places-crash .ensures) (passed .if2 .left) _ (c .before .suits-step .ensures) (c .if3 .taken))
 
 add-counted : tie.Need-add-counted
 add-counted c = search needs
 
 returns-4 : tie.Need-returns-4
 returns-4 c =
-    let suits = c .before in
-    let passed = suits .before in
-    let placed = passed .before .before in
-    let inside = crash-placed _ _ _ _ (sym (placed .places-crash .ensures) ∙ not-false _ (passed .if2 .left)) in (
-      omega arith,
-      λ x en et. crash-next x _ _ _ _ _ en et (omega arith) _ (placed .places-crash .ensures) (passed .if2 .left) _ (suits .suits-step .ensures)
-          (c .if3 .left),
-    )
+    let passed = c .before .before in
+    crash-next _ _ _ _ _ (omega arith) _ (passed .before .before .places-crash .ensures) (passed .if2 .left) _ (c .before .suits-step .ensures) (c .if3 .left)
 
 pub crash-line-spec : {M : Type 1} → statement M
 crash-line-spec =

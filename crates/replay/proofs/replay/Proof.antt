@@ -1,7 +1,6 @@
 -- `replay::replay` meets its contract: each line read leads on. Assumes nothing.
 use Prim.Native.Nat.{_-_}
-use Rattle.lines.proofs.Read.{read-line}
-use Rattle.lines.specs.LineAt.{LineAt}
+use Rattle.lines.proofs.Read.{LineAt, read-line}
 use Rattle.replay.proofs.replay.Statement.{statement}
 use Rattle.replay.proofs.replay.Tie as tie
 use borrow.Author.Needs.{needs}
@@ -17,12 +16,9 @@ abbrev μ-loop : tie.MeasureT-loop
 
 -- The line that was read.
 line-here : (c : tie.After-size Inv-loop μ-loop)
-    → LineAt (c .before .before .before .before .before .before .before .before .args .text .now) (c .before .before .before .before .before .loop .here .at)
-    (c .size .given .0 .0) (c .size .given .0 .1 .0)
-line-here c = read-line _ _ _ _ (sym (c .before .before .read .ensures) ∙ c .size .given .1)
-
-new-requires : tie.Need-new-requires Inv-loop μ-loop
-new-requires c κs = search needs
+    → LineAt (c .before .before .before .before .before .before .before .args .text .now) (c .before .before .before .before .before .loop .here .at)
+    (c .size .given .0 .0) (c .size .given .0 .1 .0) (c .size .given .0 .1 .1 .0) (c .size .given .0 .1 .1 .1 .0)
+line-here c = read-line _ _ _ _ _ _ (sym (c .before .before .read .ensures) ∙ c .size .given .1)
 
 loop-holds : tie.Need-loop-holds Inv-loop μ-loop
 loop-holds c = tt
@@ -40,7 +36,7 @@ returns : tie.Need-returns Inv-loop μ-loop
 returns c = search needs
 
 replay-line-requires : tie.Need-replay-line-requires Inv-loop μ-loop
-replay-line-requires c κs = line-here (c .before) .holds
+replay-line-requires c κs = let line = line-here (c .before) in omega (arith, line .after, line .inside)
 
 returns-2 : tie.Need-returns-2 Inv-loop μ-loop
 returns-2 c = search needs
@@ -60,7 +56,6 @@ replay-spec =
     (tie.spec
     Inv-loop
     μ-loop
-    new-requires
     loop-holds
     read-requires
     enum-known-size

@@ -2,15 +2,15 @@
 use mathlib.Core.Path.{sym, _∙_}
 use native.Mathlib.Omega.{arith}
 use borrow.Author.Needs.{needs}
-use Rattle.lines.specs.LineAt.{LineAt}
-use Rattle.lines.proofs.Read.{read-line}
+use Rattle.lines.proofs.Read.{LineAt, read-line}
 use Rattle.ticket.proofs.HeaderAnswers.{too-long, no-text, no-header, header-refused, header-says}
 use Rattle.ticket.proofs.read_header.Statement.{statement}
 use Rattle.ticket.proofs.read_header.Tie as tie
 
 -- The line that was read.
-line-here : (c : tie.After-size) → LineAt (c .before .before .before .before .before .before .args .text .now) 0 (c .size .given .0 .0) (c .size .given .0 .1 .0)
-line-here c = read-line _ _ _ _ (sym (c .before .before .read-line .ensures) ∙ c .size .given .1)
+line-here : (c : tie.After-size) → LineAt (c .before .before .before .before .before .before .args .text .now) 0
+    (c .size .given .0 .0) (c .size .given .0 .1 .0) (c .size .given .0 .1 .1 .0) (c .size .given .0 .1 .1 .1 .0)
+line-here c = read-line _ _ _ _ _ _ (sym (c .before .before .read-line .ensures) ∙ c .size .given .1)
 
 returns : tie.Need-returns
 returns c = too-long _ (omega arith)
@@ -31,7 +31,7 @@ returns-3 : tie.Need-returns-3
 returns-3 c = no-header _ (omega arith) (omega arith) (sym (c .before .before .read-line .ensures) ∙ c .enum-told .given .1)
 
 header-line-requires : tie.Need-header-line-requires
-header-line-requires c κs = line-here (c .before) .holds
+header-line-requires c κs = search needs
 
 enum-known-answer : tie.Need-enum-known-answer
 enum-known-answer c = search needs
@@ -42,12 +42,12 @@ enum-known-answer-2 c = search needs
 returns-4 : tie.Need-returns-4
 returns-4 c =
     let answered = c .before .before .before in
-    header-says _ (omega arith) _ _ (line-here (answered .before .before)) _ (answered .header-line .ensures) (c .before .answer .given .1)
+    header-says _ (omega arith) _ _ _ _ (line-here (answered .before .before)) _ (answered .header-line .ensures) (c .before .answer .given .1)
 
 returns-5 : tie.Need-returns-5
 returns-5 c =
     let answered = c .before .before .before in
-    header-refused _ (omega arith) _ _ (line-here (answered .before .before)) _ (answered .header-line .ensures) (c .before .answer2 .given .1)
+    header-refused _ (omega arith) _ _ _ _ (line-here (answered .before .before)) _ (answered .header-line .ensures) (c .before .answer2 .given .1)
 
 pub read-header-spec : {M : Type 1} → statement M
 read-header-spec =

@@ -5,9 +5,8 @@ use Prim.Native.Nat.{_-_, _≤_, _<_}
 use native.Mathlib.Omega.{arith}
 use lib.ListN.{length}
 use borrow.Author.Needs.{needs}
-use Rattle.lines.specs.LineAt.{LineAt}
-use Rattle.lines.proofs.Read.{read-line}
-use Rattle.ticket.proofs.Reached.{allowed-places, reached-start, reached-end, reached-no-line, Reached, same-place}
+use Rattle.lines.proofs.Read.{LineAt, read-line}
+use Rattle.ticket.proofs.Reached.{reached-start, reached-end, reached-no-line, Reached, same-place}
 use Rattle.ticket.proofs.Reached.{proposal-place, crash-place, reached-refused, reached-proposal, reached-crash, reached-ended}
 use Rattle.ticket.proofs.read_rest.Statement.{statement}
 use Rattle.ticket.proofs.read_rest.Tie as tie
@@ -21,8 +20,8 @@ abbrev μ-loop : tie.MeasureT-loop
 -- The line that was read.
 line-here : (c : tie.After-size Inv-loop μ-loop)
     → LineAt (c .before .before .before .before .before .before .before .args .text .now) (c .before .before .before .before .before .loop .here .at)
-    (c .size .given .0 .0) (c .size .given .0 .1 .0)
-line-here c = read-line _ _ _ _ (sym (c .before .before .read-line .ensures) ∙ c .size .given .1)
+    (c .size .given .0 .0) (c .size .given .0 .1 .0) (c .size .given .0 .1 .1 .0) (c .size .given .0 .1 .1 .1 .0)
+line-here c = read-line _ _ _ _ _ _ (sym (c .before .before .read-line .ensures) ∙ c .size .given .1)
 
 loop-holds : tie.Need-loop-holds Inv-loop μ-loop
 loop-holds c =
@@ -41,9 +40,7 @@ enum-told : tie.Need-enum-told Inv-loop μ-loop
 enum-told c = search needs
 
 accept-line-requires : tie.Need-accept-line-requires Inv-loop μ-loop
-accept-line-requires c κs =
-    let here = c .before .before .before .before .before .before .loop .inv in
-    (line-here (c .before) .holds, allowed-places _ _ (here .full .all-values) (here .allowed))
+accept-line-requires c κs = c .before .before .before .before .before .before .loop .inv .places
 
 enum-known-count : tie.Need-enum-known-count Inv-loop μ-loop
 enum-known-count c = search needs
@@ -53,7 +50,7 @@ proposal-here : (c : tie.After-known-told2 Inv-loop μ-loop) → c .before .coun
 proposal-here c =
     let taken = c .before .before .before in
     let line = taken .before .before in
-    proposal-place _ _ _ _ _ (line .before .before .before .before .before .loop .inv) _ _ (line-here line) _ (taken .accept-line .ensures) (c .before .count .given .1)
+    proposal-place _ _ _ _ _ (line .before .before .before .before .before .loop .inv) _ _ _ _ (line-here line) _ (taken .accept-line .ensures) (c .before .count .given .1)
 
 cast-table : tie.Need-cast-table Inv-loop μ-loop
 cast-table c = let inside = proposal-here c in omega arith
@@ -72,8 +69,9 @@ crash-here : (c : tie.After-struct-known2 Inv-loop μ-loop) → (1 ≤ c .before
 crash-here c =
     let taken = c .before .before .before .before in
     let line = taken .before .before in
-    let inside = crash-place _ _ _ _ _ (line .before .before .before .before .before .loop .inv) _ _ (line-here line) _ (taken .accept-line .ensures) (c .before .before .lines .given .1) in
-    omega (arith, inside)
+    let here = line .before .before .before .before .before .loop .inv in
+    let inside = crash-place _ _ _ _ _ here _ _ _ _ (line-here line) _ (taken .accept-line .ensures) (c .before .before .lines .given .1) in
+    omega (arith, inside .first, inside .last, here .few)
 
 sub-i : tie.Need-sub-i Inv-loop μ-loop
 sub-i c = let inside = crash-here c in omega arith
@@ -114,14 +112,14 @@ loop-again c =
     let line = taken .before .before in
     let here = line .before .before .before .before .before .loop .inv in
     ⊎-elim
-    (λ w. same-place (w .3) (w .4) (reached-proposal _ _ _ _ _ here _ _ (line-here line) _ (taken .accept-line .ensures) (w .1 .given .1)))
+    (λ w. same-place (w .3) (w .4) (reached-proposal _ _ _ _ _ here _ _ _ _ (line-here line) _ (taken .accept-line .ensures) (w .1 .given .1)))
     (⊎-elim
-    (λ w. same-place (w .4) (w .5) (reached-crash _ _ _ _ _ here _ _ (line-here line) _ (taken .accept-line .ensures) (w .1 .given .1)))
-    (λ w. same-place (w .2) (w .3) (reached-ended _ _ _ _ _ here _ _ (line-here line) _ (taken .accept-line .ensures) (w .1 .given .1))))
+    (λ w. same-place (w .4) (w .5) (reached-crash _ _ _ _ _ here _ _ _ _ (line-here line) _ (taken .accept-line .ensures) (w .1 .given .1)))
+    (λ w. same-place (w .2) (w .3) (reached-ended _ _ _ _ _ here _ _ _ _ (line-here line) _ (taken .accept-line .ensures) (w .1 .given .1))))
     (c .match2 .came)
 
 returns : tie.Need-returns Inv-loop μ-loop
-returns c = c .at-end .ensures _ ∙ reached-end _ _ _ _ _ (c .before .before .before .loop .inv) (omega arith)
+returns c = reached-end _ _ _ _ _ (c .before .before .before .loop .inv) (omega arith) _ (c .at-end .ensures)
 
 returns-2 : tie.Need-returns-2 Inv-loop μ-loop
 returns-2 c =
@@ -132,7 +130,7 @@ returns-3 : tie.Need-returns-3 Inv-loop μ-loop
 returns-3 c =
     let taken = c .before .before .before in
     let line = taken .before .before in
-    reached-refused _ _ _ _ _ (line .before .before .before .before .before .loop .inv) _ _ (line-here line) _ (taken .accept-line .ensures) (c .before .number .given .1)
+    reached-refused _ _ _ _ _ (line .before .before .before .before .before .loop .inv) _ _ _ _ (line-here line) _ (taken .accept-line .ensures) (c .before .number .given .1)
 
 pub read-rest-spec : {M : Type 1} → statement M
 read-rest-spec =

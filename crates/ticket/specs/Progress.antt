@@ -1,0 +1,26 @@
+-- For the code alone: the stage of a ticket that its place and its table stand for, and what a text that is over is answered with.
+use Prim.Native.Nat.{ℕ}
+use lib.ListN.{take}
+use Rattle.protocol.specs.Instance.{Instance}
+use Rattle.tables.specs.InstanceReading.{instanceOf}
+use Rattle.tables.specs.declared.InstanceTable.{InstanceTable}
+use Rattle.formats.specs.Accept.{Stage, body}
+use Rattle.formats.specs.declared.Place.{Place}
+use Rattle.formats.specs.declared.Place.the-variants.{Proposals, Failures, Ended}
+use Rattle.ticket.specs.declared.Answer.{Answer}
+
+-- The instance as described so far: the table's, with the proposals that were made.
+unfoldable pub soFar : Place → InstanceTable → Instance
+soFar (Proposals count) table =
+    record { processes = table .n; resilience = table .t; proposals = take count (table .values); pattern = instanceOf table .pattern }
+soFar (Failures lines last) table = instanceOf table
+soFar Ended table = instanceOf table
+
+abbrev pub stageOf : Place → InstanceTable → Stage
+stageOf place table = body place (soFar place table)
+
+-- A text that is over at line k.
+unfoldable pub endAnswer : Place → ℕ → Answer
+endAnswer (Proposals count) k = Answer.Refused 3 k
+endAnswer (Failures lines last) k = Answer.Refused 3 k
+endAnswer Ended k = Answer.Accepted
