@@ -1,16 +1,15 @@
 -- Two accepted texts that are paired line by line state paired instances: both are read side by side, and the stages stay alike. Assumes nothing.
-use mathlib.Core.List.{List, [], _∷_, _++_}
-use mathlib.Core.Path.{_≡_, refl, sym, _∙_}
-use mathlib.Core.Bool.{Bool, true, false, true≢false, cond}
+use mathlib.Core.List.{List}
+use mathlib.Core.Path.{_≡_, refl}
+use mathlib.Core.Bool.{Bool, true, false, cond}
 use Prim.Native.Nat.{ℕ, suc, _-_, _≤_}
 use native.Mathlib.Omega.{arith}
 use borrow.Author.Tests.{eqb-true}
 use lib.Dec.{eqb, ltb}
 use lib.ListN.{length, getD, replicate, length-replicate}
-use Rattle.general.specs.BigEndian.{number}
 use Rattle.general.proofs.Tests.{both}
 use Rattle.general.proofs.Lists.{getD-repeated}
-use Rattle.protocol.specs.Instance.{Instance, correct, faultOf, withinLimits}
+use Rattle.protocol.specs.Instance.{Instance, correct, faultOf}
 use Rattle.protocol.specs.Consensus.{same, moreCommits, missing, Paired}
 use Rattle.formats.specs.Line.{Line, bytes, noLine}
 use Rattle.formats.specs.Step.{next}

@@ -4,7 +4,7 @@ use mathlib.Core.Logic.{_⊎_, inl, inr, ⊎-elim}
 use mathlib.Core.Bool.{true, false}
 use Prim.Native.Nat.{ℕ, _+_, _-_, _≤_, _<_}
 use native.Mathlib.Omega.{arith}
-use borrow.Author.Tests.{le-leb, lt-leb, leb-true, lt-ltb, le-ltb}
+use borrow.Author.Tests.{le-leb, lt-leb, lt-ltb, le-ltb}
 use Rattle.formats.specs.Digit.{digitValue, isDigit, noDigit}
 use Rattle.formats.specs.HexText.{digitOf}
 use Rattle.general.proofs.Tests.{by-order}
@@ -39,10 +39,6 @@ value-above c h =
     let high : 57 < c = omega arith in
     let letter : 65 ≤ c = omega arith in
     simp (le-leb 48 c past, lt-leb c 57 high, le-leb 65 c letter, lt-leb c 70 h)
-
-pub digit-value : (c : ℕ) → isDigit c ≡ true → digitValue c ≤ 15
-unfolding isDigit
-digit-value c h = leb-true (digitValue c) 15 h
 
 pub value-digit : (c : ℕ) → digitValue c ≤ 15 → isDigit c ≡ true
 unfolding isDigit

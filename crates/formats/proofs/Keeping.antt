@@ -1,7 +1,5 @@
 -- A property of stages that every line keeps holds of what a text is accepted with, whatever the format. Assumes nothing.
 use mathlib.Core.List.{List, [], _∷_}
-use mathlib.Core.Path.{_≡_, refl}
-use mathlib.Core.Bool.{Bool, true, false, cond, not}
 use Prim.Native.Nat.{ℕ, suc}
 use Rattle.general.proofs.Bytes.{Bytes}
 use Rattle.formats.specs.Line.{Line, bytes, noLine}

@@ -11,7 +11,6 @@ use Rattle.general.specs.BigEndian.{number}
 use Rattle.protocol.specs.Instance.{withinLimits}
 use Rattle.formats.specs.FailureLine.{placesCrash, suitsStep}
 use Rattle.formats.specs.Says.{isKind, headerSays, afterProposal, proposalSays, failureLine, crashSays, failureSays, lineSays}
-use Rattle.formats.specs.declared.FailureLine.{FailureLine}
 use Rattle.formats.specs.declared.Place.{Place}
 use Rattle.formats.specs.declared.Place.the-variants.{Proposals, Failures, Ended}
 use Rattle.formats.specs.declared.HeaderAnswer.{HeaderAnswer}

@@ -1,13 +1,12 @@
 -- A ticket is refused with a number from 1 to 8, at a line that two bytes hold: a text has at most a line for each of its bytes and one more. Assumes nothing.
 use mathlib.Core.List.{List, [], _∷_}
-use mathlib.Core.Bool.{Bool, true, false, cond, not}
+use mathlib.Core.Bool.{Bool, true, false, cond}
 use Prim.Native.Nat.{ℕ, suc, _+_, _≤_}
 use native.Mathlib.Omega.{arith}
 use mathlib.Core.Path.{_≡_, refl}
-use lib.Dec.{eqb, ltb, leb}
-use lib.ListN.{length, getD}
+use lib.Dec.{eqb, ltb}
+use lib.ListN.{length}
 use borrow.Author.Tests.{ltb-false}
-use Rattle.protocol.specs.Instance.{withinLimits}
 use Rattle.formats.specs.Line.{Line, bytes, noLine, Scan, even, odd, broken, scan, closed, unclosed, linesFrom, linesOf}
 use Rattle.formats.specs.Step.{Step, next, refuse}
 use Rattle.formats.specs.Reading.{Reading, accepted, refused, proceed, readFrom}

@@ -1,8 +1,7 @@
 -- Tests: what both sides of a conjunction say, tests that say the same, cases on an order and on an equality, a bound of a choice, and a test computed at every number below a bound. Assumes nothing.
 use mathlib.Core.Path.{_≡_, refl, sym}
 use mathlib.Core.Bool.{Bool, true, false, cond, _&&_}
-use Prim.Native.Nat.{ℕ, zero, suc, _≤_, _<_}
-use native.Mathlib.Omega.{arith}
+use Prim.Native.Nat.{ℕ, _≤_, _<_}
 use lib.Dec.{leb, eqb}
 use borrow.Author.Tests.{leb-true, leb-false, eqb-true, eqb-false}
 
@@ -40,22 +39,3 @@ by-equal {C} a b f g = pick (eqb a b) refl where
 pub cond-le : (b : Bool) (k l m : ℕ) → k ≤ m → l ≤ m → cond b k l ≤ m
 cond-le true k l m h g = h
 cond-le false k l m h g = g
-
--- A test passes at every number below a bound; computed.
-abbrev pub everyBelow : ℕ → (ℕ → Bool) → Bool
-everyBelow zero test = true
-everyBelow (suc bound) test = cond (test bound) (everyBelow bound test) false
-
-module _ (test : ℕ → Bool) (bound c : ℕ) where
-  at-last : c < suc bound → test bound ≡ true → (c < bound → test c ≡ true) → (last : Bool) → eqb c bound ≡ last → test c ≡ true
-  at-last less own earlier true e = rw (eqb-true c bound e) own
-  at-last less own earlier false e = let other : c ≡ bound → ⊥ = eqb-false c bound e in earlier (omega arith)
-
-  at-step : c < suc bound → (everyBelow bound test ≡ true → c < bound → test c ≡ true) → (own : Bool) → test bound ≡ own
-      → cond own (everyBelow bound test) false ≡ true → test c ≡ true
-  at-step less earlier true e h = at-last less e (earlier h) (eqb c bound) refl
-  at-step less earlier false e h = absurd (let z : _≡_ {A = ℕ} 0 1 = cc in omega arith)
-
-pub every-below-at : (bound : ℕ) (test : ℕ → Bool) → everyBelow bound test ≡ true → (c : ℕ) → c < bound → test c ≡ true
-every-below-at zero test h c less = absurd (let z : ⊥ = omega arith in z)
-every-below-at (suc bound) test h c less = at-step test bound c less (λ g. every-below-at bound test g c) (test bound) refl h

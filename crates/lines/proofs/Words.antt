@@ -1,11 +1,11 @@
 -- Laws of the two words of a line: one byte more, and that they are the bytes themselves of a line of at most sixteen. Assumes nothing.
 use mathlib.Core.List.{List, [], _∷_, _++_}
-use mathlib.Core.Path.{_≡_, refl, sym, ap, ap₂, _∙_}
-use Prim.Native.Nat.{ℕ, zero, suc, _+_, _*_, _/_, _%_, _^_, _≤_, _<_}
+use mathlib.Core.Path.{_≡_, sym, ap, _∙_}
+use Prim.Native.Nat.{ℕ, _+_, _*_, _/_, _%_, _^_, _≤_, _<_}
 use native.Mathlib.Omega.{arith}
 use native.Mathlib.Nat.{pow-le-pow-right, zero-lt-suc, lt-of-lt-of-le, div-lt-iff-lt-mul, mod-eq-of-lt}
-use lib.ListN.{length, length-append}
-use Rattle.general.specs.BigEndian.{number, bytesOf}
+use lib.ListN.{length}
+use Rattle.general.specs.BigEndian.{number}
 use Rattle.general.proofs.Bytes.{Bytes}
 use Rattle.general.proofs.BigEndian.{numberFrom-snoc, number-below, bytes-number}
 use Rattle.lines.specs.Words.{upperWord, lowerWord, lineBytes}

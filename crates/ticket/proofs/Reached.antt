@@ -15,7 +15,7 @@ use Rattle.tables.specs.declared.InstanceTable.{InstanceTable}
 use Rattle.formats.specs.Line.{linesOf}
 use Rattle.formats.specs.Reading.{refused, proceed, readFrom}
 use Rattle.formats.specs.Says.{afterProposal, lineSays}
-use Rattle.formats.specs.Accept.{body, withProposal, withCrash, store, accept}
+use Rattle.formats.specs.Accept.{withProposal, withCrash, store, accept}
 use Rattle.formats.specs.Ticket.{atEnd, readTicket}
 use Rattle.formats.specs.declared.FailureLine.{FailureLine}
 use Rattle.formats.specs.declared.Place.{Place}

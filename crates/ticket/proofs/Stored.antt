@@ -1,16 +1,15 @@
 -- The table from line to line: before the first proposal, and one proposal more, read as the instance so far. Assumes nothing.
 use mathlib.Core.List.{List, [], _∷_, _++_}
-use mathlib.Core.Path.{_≡_, refl, sym, ap, ap₂, _∙_}
+use mathlib.Core.Path.{_≡_, refl, ap, _∙_}
 use mathlib.Core.Bool.{Bool, true, false, cond}
-use Prim.Native.Nat.{ℕ, zero, suc, _+_, _≤_, _<_}
-use native.Mathlib.Omega.{arith}
+use Prim.Native.Nat.{ℕ, zero, suc, _≤_, _<_}
 use lib.Dec.{eqb}
 use lib.ListN.{length, take, set, replicate}
 use lib.Seq.{take-suc-set}
 use borrow.Author.Tests.{eqb-true}
 use Rattle.general.specs.Indexed.{mapFrom}
 use Rattle.general.proofs.Lists.{take-replicate}
-use Rattle.protocol.specs.Instance.{Instance, Fault, correct}
+use Rattle.protocol.specs.Instance.{Fault, correct}
 use Rattle.tables.specs.InstanceReading.{faultFrom, faultIn, instanceOf}
 use Rattle.tables.specs.declared.InstanceTable.{InstanceTable}
 use Rattle.formats.specs.Says.{afterProposal}

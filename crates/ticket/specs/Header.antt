@@ -1,5 +1,5 @@
 -- The code reads a ticket in two parts: what reading the header answers, and what it leaves to be read.
-use mathlib.Core.List.{List, []}
+use mathlib.Core.List.{List}
 use mathlib.Core.Path.{_≡_}
 use mathlib.Core.Bool.{true}
 use Prim.Native.Nat.{ℕ, _≤_}
