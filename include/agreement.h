@@ -219,6 +219,17 @@ static inline unsigned uc_settle_line(uint64_t answer)
 {
     return (unsigned)(uc_settle_refusal(answer) ? answer & 65535u : 0u);
 }
+/* The name that version 1.0 had for the two calls that take a ticket. It was false of refusal 10 of uc_speak, so each use
+ * is told by the compiler: ask uc_CALL_refusal. */
+#if defined __GNUC__
+__attribute__((deprecated("of uc_run and uc_settle alone: ask uc_run_refusal or uc_settle_refusal")))
+#endif
+static inline int uc_ticket_refused(uint64_t answer)
+{
+    return answer >= 65536u;
+}
+#define UC_REFUSED(answer) uc_ticket_refused(answer)
+
 static inline unsigned uc_start_refusal(uint64_t answer)
 {
     return (unsigned)answer;
