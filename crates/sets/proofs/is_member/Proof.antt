@@ -1,9 +1,9 @@
--- `transitions::is_member` meets its contract. Assumes nothing.
+-- `is_member` meets its contract. Assumes nothing.
 use mathlib.Core.Path.{refl}
 use borrow.Author.Needs.{needs}
 use Rattle.general.specs.Bits.{member}
-use Rattle.transitions.proofs.is_member.Statement.{statement}
-use Rattle.transitions.proofs.is_member.Tie as tie
+use Rattle.sets.proofs.is_member.Statement.{statement}
+use Rattle.sets.proofs.is_member.Tie as tie
 
 sub-result : tie.Need-sub-result
 sub-result c = search needs

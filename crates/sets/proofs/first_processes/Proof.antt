@@ -2,8 +2,8 @@
 use native.Mathlib.Omega.{arith}
 use borrow.Author.Needs.{needs}
 use Rattle.general.proofs.Bits.{highest-positive, first-mask}
-use Rattle.checks.proofs.first_processes.Statement.{statement}
-use Rattle.checks.proofs.first_processes.Tie as tie
+use Rattle.sets.proofs.first_processes.Statement.{statement}
+use Rattle.sets.proofs.first_processes.Tie as tie
 
 sub-highest : tie.Need-sub-highest
 sub-highest c = search needs
