@@ -5,9 +5,8 @@ use mathlib.Core.Bool.{Bool, true, false, cond}
 use native.Mathlib.Omega.{arith}
 use lib.Dec.{eqb}
 use borrow.Author.Tests.{ne-eqb}
-use Rattle.protocol.specs.Instance.{Fault, correct, crashes, CrashPoint, pointFrom}
+use Rattle.protocol.specs.Instance.{Fault, correct, crashes, CrashPoint, beforeSending, duringData, duringCommits, pointFrom}
 use Rattle.protocol.specs.Round.{State, decided, crashed}
-use Rattle.protocol.specs.Undecided.{isUndecided}
 use Rattle.tables.specs.InstanceReading.{faultFrom}
 use Rattle.tables.specs.RunReading.{stateByEnd}
 
@@ -37,11 +36,16 @@ any-ended end round value P one two h = simp ne-eqb (by-end (eqb end 1))
     by-end true = one _ _
     by-end false = two _
 
--- An end of 0 is that of a process up and undecided.
-pub is-undecided : (end round value : ℕ) → end ≡ 0 → isUndecided (stateByEnd end round value) ≡ true
-unfolding isUndecided stateByEnd
-is-undecided end round value h = rw h
+-- The points of the steps.
+module _ (step set count : ℕ) where
+  pub at-step-0 : step ≡ 0 → pointFrom step set count ≡ beforeSending
+  unfolding pointFrom
+  at-step-0 h = rw h
 
-pub not-undecided : (end round value : ℕ) → (end ≡ 0 → ⊥) → isUndecided (stateByEnd end round value) ≡ false
-unfolding isUndecided
-not-undecided end round value h = any-ended end round value (λ (s : State). isUndecided s ≡ false) (λ k v. refl) (λ k. refl) h
+  pub at-step-1 : step ≡ 1 → pointFrom step set count ≡ duringData set
+  unfolding pointFrom
+  at-step-1 h = rw h
+
+  pub at-step-2 : (step ≡ 0 → ⊥) → (step ≡ 1 → ⊥) → pointFrom step set count ≡ duringCommits count
+  unfolding pointFrom
+  at-step-2 h g = simp ne-eqb
