@@ -4,7 +4,8 @@ use Prim.Native.Nat.{ℕ, _≤_, _<_}
 use mathlib.Core.Bool.{Bool, true, false, cond}
 use lib.Dec.{eqb}
 use borrow.Author.Tests.{ne-eqb, lt-ltb, le-ltb}
-use Rattle.protocol.specs.Round.{undecided, crashed}
+use Rattle.protocol.specs.Instance.{Fault, correct, crashes, pointFrom}
+use Rattle.protocol.specs.Round.{State, undecided, decided, crashed}
 use Rattle.protocol.specs.CrashCount.{isIdle, countsAsCrash}
 use Rattle.tables.specs.InstanceReading.{faultFrom}
 use Rattle.tables.specs.RunReading.{stateByEnd}
@@ -30,3 +31,21 @@ module _ (round step set count end ended value : ℕ) where
       by-end : (b : Bool) → _≡_ {A = ℕ} 1 (cond (isIdle round (cond b (undecided value) (crashed ended))) 0 1)
       by-end true = refl
       by-end false = refl
+
+-- The line's step, set and count and the process's value do not matter.
+pub by-round-and-end : (round step set count end ended value : ℕ)
+    → countsAsCrash (faultFrom round step set count) (stateByEnd end ended value) ≡ countsAsCrash (faultFrom round 0 0 0) (stateByEnd end ended 0)
+unfolding countsAsCrash faultFrom isIdle stateByEnd
+by-round-and-end round step set count end ended value = by-tests (eqb round 0) (eqb end 0) (eqb end 1)
+  where
+    line : Bool → (step set count : ℕ) → Fault
+    line a s t c = cond a correct (crashes round (pointFrom s t c))
+
+    state : Bool → Bool → ℕ → State
+    state b c v = cond b (undecided v) (cond c (decided ended v) (crashed ended))
+
+    by-tests : (a b c : Bool) → countsAsCrash (line a step set count) (state b c value) ≡ countsAsCrash (line a 0 0 0) (state b c 0)
+    by-tests true b c = refl
+    by-tests false true c = refl
+    by-tests false false true = refl
+    by-tests false false false = refl
