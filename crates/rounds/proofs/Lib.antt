@@ -4,3 +4,4 @@ pub mod Stored
 pub mod RoundDone
 pub mod DyingSets
 pub mod Crashes
+pub mod Whole

@@ -38,7 +38,16 @@ fn crash_sets(rounds: &[u8; 64], n: u8) -> [u64; 64]
 
 // Round r of n processes, which begins with a process up and undecided: the run as it begins, to the run as it ends, with its message counts.
 // The numbers are those of the coordinator's fault, and `dying` is the set of the processes whose crash round is r.
-pub fn run_round(n: u8, r: u8, round: u8, step: u8, set: u64, count: u8, dying: u64, run: RunTable) -> RunTable
+pub fn run_round(
+    n: u8,
+    r: u8,
+    round: u8,
+    step: u8,
+    set: u64,
+    count: u8,
+    dying: u64,
+    run: RunTable,
+) -> RunTable
     requires { ⌜ RoundAllowed n r (faultFrom round step set count) run ⌝ }
     ensures { λ next. ⌜ RoundRun n r (faultFrom round step set count) dying run next ⌝ }
 {
@@ -85,7 +94,16 @@ pub fn run_all(x: InstanceTable) -> RunTable
             return run;
         }
         let k = (r - 1) as usize;
-        run = run_round(n, r, x.rounds[k], x.steps[k], x.sets[k], x.counts[k], dying[k], run);
+        run = run_round(
+            n,
+            r,
+            x.rounds[k],
+            x.steps[k],
+            x.sets[k],
+            x.counts[k],
+            dying[k],
+            run,
+        );
         r += 1;
     }
     run

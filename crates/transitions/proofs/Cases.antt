@@ -1,12 +1,14 @@
 -- The faults and states that the numbers of a table stand for, by cases. Assumes nothing.
 use mathlib.Core.Path.{_≡_, refl}
-use Prim.Native.Nat.{ℕ, _≤_}
+use Prim.Native.Nat.{ℕ, _+_, _≤_}
 use mathlib.Core.Bool.{Bool, true, false, cond}
 use native.Mathlib.Omega.{arith}
 use lib.Dec.{eqb}
-use borrow.Author.Tests.{ne-eqb}
+use borrow.Author.Tests.{eqb-true, ne-eqb}
+use Rattle.general.proofs.Tests.{by-equal}
 use Rattle.protocol.specs.Instance.{Fault, correct, crashes, CrashPoint, beforeSending, duringData, duringCommits, pointFrom}
-use Rattle.protocol.specs.Round.{State, decided, crashed}
+use Rattle.protocol.specs.Round.{State, decided, crashed, crashesIn}
+use Rattle.protocol.specs.WellFormed.{FaultAllowed}
 use Rattle.tables.specs.InstanceReading.{faultFrom}
 use Rattle.tables.specs.RunReading.{stateByEnd}
 
@@ -49,3 +51,20 @@ module _ (step set count : ℕ) where
   pub at-step-2 : (step ≡ 0 → ⊥) → (step ≡ 1 → ⊥) → pointFrom step set count ≡ duringCommits count
   unfolding pointFrom
   at-step-2 h g = simp ne-eqb
+
+-- A process crashes in round r, 1 or later, just if its crash round is r.
+pub crashes-by-round : (r round step set count : ℕ) → 1 ≤ r → eqb round r ≡ crashesIn r (faultFrom round step set count)
+unfolding crashesIn faultFrom
+crashes-by-round r round step set count h = by-round (eqb round 0) refl
+  where
+    by-round : (b : Bool) → eqb round 0 ≡ b → eqb round r ≡ crashesIn r (cond b correct (crashes round (pointFrom step set count)))
+    by-round true e = let other : round ≡ r → ⊥ = (λ same. let none : round ≡ 0 = eqb-true round 0 e in omega arith) in ne-eqb round r other
+    by-round false e = refl
+
+-- The crash round that a fault allows is at most t + 1; 0 is that of a correct process.
+pub round-within : (n t p round step set count : ℕ) → FaultAllowed n t p (faultFrom round step set count) → round ≤ t + 1
+unfolding FaultAllowed
+round-within n t p round step set count allowed = by-equal round 0 (λ none. omega arith) some
+  where
+    some : (round ≡ 0 → ⊥) → round ≤ t + 1
+    some ne = let limits = rw (crash-of-round round round step set count (omega arith) refl) at allowed in omega (arith, limits .1)

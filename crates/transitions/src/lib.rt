@@ -26,19 +26,39 @@ pub fn sending(n: u8, r: u8, round: u8, step: u8, set: u64, count: u8, undecided
     ensures { λ s. ⌜ s ≡ sendingBy n r (faultFrom round step set count) (member r undecided) ⌝ }
 {
     if !sets::is_member(r, undecided) {
-        return Sent { coordinator: 0, reached: 0, committed: 0 };
+        return Sent {
+            coordinator: 0,
+            reached: 0,
+            committed: 0,
+        };
     }
     let coordinator = sets::only(r);
     let higher = sets::above(r, n);
     if round != r {
-        return Sent { coordinator, reached: higher, committed: higher };
+        return Sent {
+            coordinator,
+            reached: higher,
+            committed: higher,
+        };
     }
     if step == BEFORE_SENDING {
-        return Sent { coordinator, reached: 0, committed: 0 };
+        return Sent {
+            coordinator,
+            reached: 0,
+            committed: 0,
+        };
     }
     if step == DURING_DATA {
-        return Sent { coordinator, reached: set, committed: 0 };
+        return Sent {
+            coordinator,
+            reached: set,
+            committed: 0,
+        };
     }
     let committed = sets::above(n - count, n);
-    Sent { coordinator, reached: higher, committed }
+    Sent {
+        coordinator,
+        reached: higher,
+        committed,
+    }
 }
