@@ -1,4 +1,5 @@
--- Sets of processes as bits: `ones64` is the library's count of ones, the size of a set of processes above p, of n, the count of ones as the number of members, and the mask of the processes 1 to p. Assumes nothing.
+-- Sets of processes as bits: `ones64` is the library's count of ones, the size of a set of processes above p, of n, the count of ones as the number of
+-- members, and the mask of the processes 1 to p. Assumes nothing.
 use mathlib.Core.List.{List, [], _∷_}
 use mathlib.Core.Path.{_≡_, refl, sym, ap, ap₂, _∙_}
 use mathlib.Core.Bool.{Bool, true, false, cond}

@@ -4,7 +4,7 @@ use mathlib.Core.List.{List}
 use mathlib.Core.Path.{_≡_, refl, sym, ap, ap₂, _∙_}
 use mathlib.Core.Bool.{Bool, true, false, cond, not, _&&_, _||_}
 use Prim.Native.Nat.{ℕ, zero, suc, _+_, _-_, _*_, _/_, _%_, _^_, _≤_, _<_, min, max}
-use native.Mathlib.Nat.{pow-suc, mod-lt, div-eq-of-lt, lt-of-lt-of-le, le-refl}
+use native.Mathlib.Nat.{pow-suc, mod-lt, div-eq-of-lt, lt-of-lt-of-le}
 use native.Mathlib.Numerals.{one-add}
 use native.Mathlib.Omega.{arith}
 use lib.Bits.{bitAnd, bitOr, bitXor, differ, and-step, or-step, xor-step, and-shr, or-shr, xor-shr, xor-lt}
@@ -14,7 +14,7 @@ use lib.Pow.{split, high, low, field, mod-mod-pow, shr-lt, pow-pos, pow-mono, on
 use borrow.Author.Tests.{eqb-true, eqb-false, eq-eqb, ne-eqb, lt-ltb, le-ltb}
 use Rattle.general.specs.Bits.{member, ones64, setOf}
 use Rattle.general.specs.Indexed.{countFrom}
-use Rattle.general.proofs.Tests.{by-order, cond-le}
+use Rattle.general.proofs.Tests.{by-order}
 use Rattle.general.proofs.Bits.{digit-member, size-among}
 use Rattle.general.proofs.Indexed.{count-same}
 
@@ -113,8 +113,9 @@ unfolding setOf
 is-set zero set test h same = omega arith
 is-set (suc n) set test h same =
     let top : set / 2 ^ n < 2 = shr-lt 1 n (rw one-add h) in
+    let own : set / 2 ^ n ≡ set / 2 ^ n % 2 = omega arith in
     let digit : set / 2 ^ n ≡ cond (test (suc n)) 1 0 =
-    (let own : set / 2 ^ n ≡ set / 2 ^ n % 2 = omega arith in own) ∙ digit-member n set ∙ ap (λ (b : Bool). cond b 1 0) (same (suc n) (omega arith) (omega arith))
+    own ∙ digit-member n set ∙ ap (λ (b : Bool). cond b 1 0) (same (suc n) (omega arith) (omega arith))
     in
     let rest : set % 2 ^ n ≡ setOf n test =
     is-set n (set % 2 ^ n) test (mod-lt set (pow-pos n)) (λ p f g. member-low n p set f g ∙ same p f (omega arith))

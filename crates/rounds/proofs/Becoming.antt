@@ -1,6 +1,6 @@
 -- What one process becomes in a round, from what the code stores of it by its membership in the round's sets. Assumes nothing.
 use mathlib.Core.Path.{_≡_, refl, sym, _∙_}
-use mathlib.Core.Bool.{Bool, true, false, cond, not, _&&_, _||_, true≢false, false≢true}
+use mathlib.Core.Bool.{Bool, true, false, cond, not, _&&_, _||_, false≢true}
 use Prim.Native.Nat.{ℕ}
 use native.Mathlib.Omega.{arith}
 use lib.Dec.{eqb}
@@ -77,7 +77,8 @@ module _ (r p w ended value : ℕ) (own : Fault) where
       → (coordinates ≡ true → speaks ≡ waits) → (coordinates ≡ true → far ≡ none)
       → storedState r w end ended value waits dies speaks coordinates far ≡ after r p own (heard far speaks) (stateByEnd end ended value)
   becomes end true dies speaks coordinates far u e c one two = rw (eqb-true end 0 u) (become dies speaks coordinates far e c one two)
-  becomes end false dies speaks coordinates far u e c one two = sym (after-ended r p own (heard far speaks) (stateByEnd end ended value) (rw (undecided-end end ended value) u))
+  becomes end false dies speaks coordinates far u e c one two =
+      sym (after-ended r p own (heard far speaks) (stateByEnd end ended value) (rw (undecided-end end ended value) u))
 
 -- It is still undecided just if it lives and does not decide.
 pub still-undecided : (end ended value : ℕ) (waits dies decides : Bool) → eqb end 0 ≡ waits

@@ -60,7 +60,8 @@ module _ (n : ℕ) (rounds sets : List ℕ) (p : ℕ) (so-far : PutBelow n round
         put = λ r h g. rw place (by-equal own r (in-own r small) (other r h g));
       }
     where
-      in-own : (r : ℕ) → own ≤ 64 → own ≡ r → getD (set sets (own - 1) (bitOr (getD sets (own - 1) 0) bit)) (r - 1) 0 ≡ setOf p (λ q. eqb (getD rounds (q - 1) 0) r)
+      in-own : (r : ℕ) → own ≤ 64 → own ≡ r
+          → getD (set sets (own - 1) (bitOr (getD sets (own - 1) 0) bit)) (r - 1) 0 ≡ setOf p (λ q. eqb (getD rounds (q - 1) 0) r)
       in-own r small e =
           let inside : own - 1 < length sets = omega (arith, so-far .places) in
           let shifted : bit ≡ 1 * 2 ^ (p - 1) = omega arith in

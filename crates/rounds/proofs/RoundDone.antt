@@ -2,12 +2,12 @@
 use mathlib.Core.List.{List}
 use mathlib.Core.Path.{_≡_, refl, sym, ap, _∙_}
 use mathlib.Core.Bool.{Bool, true, false, cond}
-use Prim.Native.Nat.{ℕ, _+_, _-_, _≤_, _<_}
+use Prim.Native.Nat.{ℕ, _-_, _≤_}
 use native.Mathlib.Omega.{arith}
-use lib.Dec.{eqb, ltb}
+use lib.Dec.{eqb}
 use lib.ListN.{length, getD}
 use borrow.Author.Tests.{eqb-true, le-ltb}
-use Rattle.general.specs.Bits.{member, membersTo, ones64, setOf}
+use Rattle.general.specs.Bits.{member, membersTo, setOf}
 use Rattle.general.specs.Indexed.{countFrom}
 use Rattle.general.proofs.Bits.{ones64-members}
 use Rattle.general.proofs.Indexed.{length-mapFrom}
@@ -17,7 +17,7 @@ use Rattle.protocol.specs.Message.{Reach, none, nothing, arriving, getsData, ge
 use Rattle.protocol.specs.Transition.{sends}
 use Rattle.protocol.specs.Instance.{Instance, Fault, faultOf}
 use Rattle.protocol.specs.Delivery.{reach}
-use Rattle.protocol.specs.Round.{State, stateOf, crashesIn, received, after, statesAfter}
+use Rattle.protocol.specs.Round.{State, stateOf, crashesIn, received, statesAfter}
 use Rattle.protocol.specs.Undecided.{isUndecided}
 use Rattle.protocol.specs.Count.{speaks, dataIn, commitsIn}
 use Rattle.protocol.specs.CountsReached.{reachedIn, CountedAsReached}
@@ -31,7 +31,7 @@ use Rattle.transitions.specs.declared.Sent.{Sent}
 use Rattle.transitions.specs.Sending.{sendingBy}
 use Rattle.rounds.specs.Round.{RoundAllowed, RoundOf, RoundRun}
 use Rattle.rounds.proofs.Becoming.{undecided-end, sent-by-end, becomes}
-use Rattle.rounds.proofs.Stored.{Sized, Stored, sized-next, waits-as, stateStored, state-after, kept-after}
+use Rattle.rounds.proofs.Stored.{Sized, Stored, sized-next, waits-as, state-after, kept-after}
 
 -- The size of a set that is empty unless the coordinator speaks: so many of a list of n pass the test.
 size-if : (b : Bool) (n : ℕ) (test : ℕ → Bool) (l : List State) → length l ≡ n → n ≤ 64
@@ -59,7 +59,7 @@ module _ (n r : ℕ) (fault : Fault) (dying : ℕ) (run next : RunTable) (sized 
   speaker : member r (run .undecided) ≡ speaks r states
   unfolding speaks
   speaker =
-      waits-as n r fault dying run next _ sized allowed stored r (allowed .sender .first) (allowed .sender .last)
+      waits-as n r fault run sized allowed r (allowed .sender .first) (allowed .sender .last)
       ∙ sym (ap isUndecided (state-in n run r entries (allowed .sender .first) (allowed .sender .last)) ∙ undecided-end _ _ _)
 
   module _ (x : Instance) (of : RoundOf x n r fault dying) where
@@ -68,7 +68,7 @@ module _ (n r : ℕ) (fault : Fault) (dying : ℕ) (run next : RunTable) (sized 
         ≡ arriving (reach n fault r p) (cond (member r (run .undecided)) (sends true (getD (run .values) (r - 1) 0)) nothing)
     unfolding received
     hears p =
-        let speaks-as = waits-as n r fault dying run next _ sized allowed stored r (allowed .sender .first) (allowed .sender .last) in
+        let speaks-as = waits-as n r fault run sized allowed r (allowed .sender .first) (allowed .sender .last) in
         rw (of .coordinator, of .processes, state-in n run r entries (allowed .sender .first) (allowed .sender .last), sent-by-end, speaks-as)
 
     -- The states, process by process.
@@ -76,10 +76,11 @@ module _ (n r : ℕ) (fault : Fault) (dying : ℕ) (run next : RunTable) (sized 
     state-as p h g =
         let dies : crashesIn r (faultOf x p) ≡ member p dying = sym (ap (member p) (of .crashing) ∙ member-set n _ p h g) in
         let one : eqb p r ≡ true → member r (run .undecided) ≡ eqb (getD (run .ends) (p - 1) 0) 0 =
-        λ e. ap (λ (q : ℕ). member q (run .undecided)) (sym (eqb-true p r e)) ∙ waits-as n r fault dying run next _ sized allowed stored p h g
+        λ e. ap (λ (q : ℕ). member q (run .undecided)) (sym (eqb-true p r e)) ∙ waits-as n r fault run sized allowed p h g
         in
         let becoming = becomes r p (getD (run .values) (r - 1) 0) (getD (run .ended) (p - 1) 0) (getD (run .values) (p - 1) 0) (faultOf x p)
-        (getD (run .ends) (p - 1) 0) _ (member p dying) (member r (run .undecided)) (eqb p r) (reach n fault r p) refl dies refl one (none-to-itself n r p fault)
+        (getD (run .ends) (p - 1) 0) _ (member p dying) (member r (run .undecided)) (eqb p r) (reach n fault r p) refl dies refl one
+        (none-to-itself n r p fault)
         in
         state-after n r fault dying run next _ sized allowed stored p h g ∙ becoming
         ∙ sym (round-state x r p states h (omega (arith, as-many)) ∙ rw (hears p, state-in n run p entries h g))
@@ -92,25 +93,23 @@ module _ (n r : ℕ) (fault : Fault) (dying : ℕ) (run next : RunTable) (sized 
         in
         states-ext n (statesIn n next) _ (length-statesIn n next entries-next) (length-mapFrom _ 1 states ∙ as-many) state-as
 
-    -- The messages counted are those that reach a process.
-    data-as : length (membersTo 64 (sendingBy n r fault (member r (run .undecided)) .reached)) ≡ dataIn x r states
-    unfolding sendingBy CountedAsReached reachedIn
-    data-as =
+    -- The messages counted are those that reach a process, of either kind.
+    counted-as : (counted : Instance → ℕ → List State → ℕ) (gets : Reach → Bool) → CountedAsReached counted gets x
+        → length (membersTo 64 (cond (member r (run .undecided)) (setOf n (λ p. gets (reach n fault r p))) 0)) ≡ counted x r states
+    unfolding CountedAsReached reachedIn
+    counted-as counted gets as-reached =
+        let last : r ≤ x .processes = rw (of .processes) (allowed .sender .last) in
         size-if (member r (run .undecided)) n _ states as-many (allowed .sender .at-most-64)
-        ∙ sym (counts-reached x (of .well-formed) .dataOfRound r states (allowed .sender .first) (rw (of .processes) (allowed .sender .last)) (as-many ∙ sym (of .processes))
-        ∙ rw (of .coordinator, of .processes, ← speaker))
-
-    commits-as : length (membersTo 64 (sendingBy n r fault (member r (run .undecided)) .committed)) ≡ commitsIn x r states
-    unfolding sendingBy CountedAsReached reachedIn
-    commits-as =
-        size-if (member r (run .undecided)) n _ states as-many (allowed .sender .at-most-64)
-        ∙ sym (counts-reached x (of .well-formed) .commitsOfRound r states (allowed .sender .first) (rw (of .processes) (allowed .sender .last)) (as-many ∙ sym (of .processes))
-        ∙ rw (of .coordinator, of .processes, ← speaker))
+        ∙ sym (as-reached r states (allowed .sender .first) last (as-many ∙ sym (of .processes)) ∙ rw (of .coordinator, of .processes, ← speaker))
 
     round-as : runFrom n next ≡ withRound x r (runFrom n run)
-    unfolding runFrom withRound
+    unfolding runFrom withRound sendingBy
     round-as =
-        rw (states-as, stored .rounds, stored .speakers-added, stored .sent-added, stored .commits-added, allowed .some-undecided, data-as, commits-as, speaker)
+        let reached = counts-reached x (of .well-formed) in
+        let data-sent = counted-as dataIn getsData (reached .dataOfRound) in
+        let commits-sent = counted-as commitsIn getsCommit (reached .commitsOfRound) in
+        rw (states-as, stored .rounds, stored .speakers-added, stored .sent-added, stored .commits-added)
+        (rw (allowed .some-undecided, data-sent, commits-sent, speaker))
 
   pub round-done : RoundRun n r fault dying run next
   round-done = record { kept = kept-after n r fault dying run next _ sized allowed stored; round = round-as }

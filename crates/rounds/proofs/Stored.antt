@@ -1,7 +1,6 @@
 -- What the code stores in a round, by the round's sets: the entry of each process afterwards, and the set of those still undecided. Assumes nothing.
-use mathlib.Core.List.{List}
 use mathlib.Core.Path.{_≡_, refl, sym, ap, ap₂, _∙_}
-use mathlib.Core.Bool.{Bool, true, false, cond, not, _&&_, _||_}
+use mathlib.Core.Bool.{Bool, true, false, cond, _&&_, _||_}
 use Prim.Native.Nat.{ℕ, _+_, _-_, _^_, _≤_, _<_}
 use native.Mathlib.Nat.{lt-of-le-of-lt}
 use native.Mathlib.Omega.{arith}
@@ -11,13 +10,13 @@ use lib.ListN.{length, getD}
 use Rattle.general.specs.Bits.{member, membersTo, setOf, filled}
 use Rattle.general.proofs.Sets.{member-and, member-or, member-xor, member-none, member-set, set-within, is-set}
 use Rattle.general.proofs.Filling.{length-filled, filled-at}
-use Rattle.protocol.specs.Message.{Reach, getsData, getsCommit}
+use Rattle.protocol.specs.Message.{Reach}
 use Rattle.protocol.specs.Instance.{Fault}
 use Rattle.protocol.specs.Delivery.{reach}
 use Rattle.protocol.specs.Round.{State, stateOf}
 use Rattle.protocol.specs.Undecided.{isUndecided}
 use Rattle.tables.specs.declared.RunTable.{RunTable}
-use Rattle.tables.specs.RunReading.{stateByEnd, statesIn}
+use Rattle.tables.specs.RunReading.{statesIn}
 use Rattle.tables.proofs.Places.{state-in}
 use Rattle.transitions.specs.declared.Sent.{Sent}
 use Rattle.transitions.specs.Sending.{sendingBy}
@@ -56,6 +55,13 @@ member-if : (b : Bool) (n : ℕ) (test : ℕ → Bool) (p : ℕ) → 1 ≤ p →
 member-if true n test p h g = member-set n test p h g
 member-if false n test p h g = member-none p
 
+-- Process p, of n, is in the table's set just if its end is 0.
+pub waits-as : (n r : ℕ) (fault : Fault) (run : RunTable) → Sized run → RoundAllowed n r fault run → (p : ℕ) → 1 ≤ p → p ≤ n
+    → member p (run .undecided) ≡ eqb (getD (run .ends) (p - 1) 0) 0
+waits-as n r fault run sized allowed p h g =
+    ap (member p) (allowed .kept) ∙ member-set n _ p h g
+    ∙ ap isUndecided (state-in n run p (omega (arith, allowed .sender .at-most-64, sized .ends)) h g) ∙ undecided-end _ _ _
+
 module _ (n r : ℕ) (fault : Fault) (dying : ℕ) (run next : RunTable) (speakers : ℕ) (sized : Sized run) (allowed : RoundAllowed n r fault run)
     (stored : Stored r (sendingBy n r fault (member r (run .undecided))) dying run next speakers) where
   abbrev sent : Sent
@@ -72,14 +78,9 @@ module _ (n r : ℕ) (fault : Fault) (dying : ℕ) (run next : RunTable) (speake
         values = ap length (stored .values) ∙ length-filled _ _ (run .values) ∙ sized .values;
       }
 
-  -- Process p, of n: whether it waits and dies, and whether the coordinator speaks.
+  -- Whether process p waits, and whether the coordinator speaks.
   abbrev waits : ℕ → Bool
   waits p = eqb (getD (run .ends) (p - 1) 0) 0
-
-  pub waits-as : (p : ℕ) → 1 ≤ p → p ≤ n → member p (run .undecided) ≡ waits p
-  waits-as p h g =
-      ap (member p) (allowed .kept) ∙ member-set n _ p h g
-      ∙ ap isUndecided (state-in n run p (omega (arith, limit, sized .ends)) h g) ∙ undecided-end _ _ _
 
   abbrev speaks : Bool
   speaks = member r (run .undecided)
@@ -89,10 +90,10 @@ module _ (n r : ℕ) (fault : Fault) (dying : ℕ) (run next : RunTable) (speake
     far = reach n fault r p
 
     in-crashing : member p (crashingIn (run .undecided) dying) ≡ (waits p && member p dying)
-    in-crashing = member-and p (run .undecided) dying ∙ rw (waits-as p h g)
+    in-crashing = member-and p (run .undecided) dying ∙ rw (waits-as n r fault run sized allowed p h g)
 
     in-live : member p (liveIn (run .undecided) dying) ≡ lives (waits p) (member p dying)
-    in-live = member-xor p (run .undecided) _ ∙ rw (in-crashing, waits-as p h g)
+    in-live = member-xor p (run .undecided) _ ∙ rw (in-crashing, waits-as n r fault run sized allowed p h g)
 
     in-deciding : member p (decidingIn (run .undecided) dying sent) ≡ decides (waits p) (member p dying) speaks (eqb p r) far
     unfolding sendingBy
@@ -119,7 +120,8 @@ module _ (n r : ℕ) (fault : Fault) (dying : ℕ) (run next : RunTable) (speake
         let inside : p ≤ length (run .ended) = omega (arith, limit, sized .ended) in
         rw (stored .ended, filled-at _ r (run .ended) p h inside, member-or p _ _, in-crashing, in-deciding)
 
-    value-after : getD (next .values) (p - 1) 0 ≡ cond (adopts (waits p) (member p dying) speaks far) (getD (run .values) (r - 1) 0) (getD (run .values) (p - 1) 0)
+    value-after : getD (next .values) (p - 1) 0
+        ≡ cond (adopts (waits p) (member p dying) speaks far) (getD (run .values) (r - 1) 0) (getD (run .values) (p - 1) 0)
     value-after =
         let inside : p ≤ length (run .values) = omega (arith, limit, sized .values) in
         rw (stored .values, filled-at _ _ (run .values) p h inside, in-adopting)

@@ -10,7 +10,7 @@ use Rattle.general.specs.Bits.{member}
 use Rattle.general.proofs.Indexed.{length-mapFrom}
 use Rattle.general.proofs.Sets.{member-none, member-set, first-set, set-same, set-empty}
 use Rattle.protocol.specs.Instance.{Fault, faultOf, proposalOf}
-use Rattle.protocol.specs.Round.{State, undecided, stateOf}
+use Rattle.protocol.specs.Round.{undecided, stateOf}
 use Rattle.protocol.specs.Undecided.{isUndecided, anyUndecided}
 use Rattle.protocol.specs.Run.{Run, initial, runTo, runOf}
 use Rattle.protocol.specs.WellFormed.{WellFormed}

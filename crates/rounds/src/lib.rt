@@ -13,11 +13,6 @@ use tables::InstanceTable;
 use tables::RunTable;
 use transitions::count;
 
-// The ends of a process (document 01, 'The result').
-const DECIDED: u8 = 1;
-
-const CRASHED: u8 = 2;
-
 // The sets of the processes that have the same crash round, that of round r at place r - 1.
 fn crash_sets(rounds: &[u8; 64], n: u8) -> [u64; 64]
     requires { ⌜ CrashRounds n (now rounds) ⌝ }
@@ -62,8 +57,8 @@ pub fn run_round(
     next.sent += sets::size(sent.reached) as u16;
     next.commits += sets::size(sent.committed) as u16;
     sets::fill_words(&mut next.values, live & sent.reached, value);
-    sets::fill_bytes(&mut next.ends, deciding, DECIDED);
-    sets::fill_bytes(&mut next.ends, crashing, CRASHED);
+    sets::fill_bytes(&mut next.ends, deciding, tables::DECIDED);
+    sets::fill_bytes(&mut next.ends, crashing, tables::CRASHED);
     sets::fill_bytes(&mut next.ended, deciding | crashing, r);
     next.undecided = live ^ deciding;
     next
@@ -79,7 +74,7 @@ pub fn run_all(x: InstanceTable) -> RunTable
     let dying = crash_sets(&x.rounds, n);
     let values = x.values;
     let mut run = RunTable {
-        ends: [0; 64],
+        ends: [tables::UNDECIDED; 64],
         ended: [0; 64],
         values: values,
         rounds: 0,

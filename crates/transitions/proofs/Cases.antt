@@ -1,4 +1,4 @@
--- The faults and states that the numbers of a table stand for, by cases. Assumes nothing.
+-- The faults that the numbers of a table stand for, by cases. Assumes nothing.
 use mathlib.Core.Path.{_≡_, refl}
 use Prim.Native.Nat.{ℕ, _+_, _≤_}
 use mathlib.Core.Bool.{Bool, true, false, cond}
@@ -7,10 +7,9 @@ use lib.Dec.{eqb}
 use borrow.Author.Tests.{eqb-true, ne-eqb}
 use Rattle.general.proofs.Tests.{by-equal}
 use Rattle.protocol.specs.Instance.{Fault, correct, crashes, CrashPoint, beforeSending, duringData, duringCommits, pointFrom}
-use Rattle.protocol.specs.Round.{State, decided, crashed, crashesIn}
+use Rattle.protocol.specs.Round.{crashesIn}
 use Rattle.protocol.specs.WellFormed.{FaultAllowed}
 use Rattle.tables.specs.InstanceReading.{faultFrom}
-use Rattle.tables.specs.RunReading.{stateByEnd}
 
 -- The fault of a crash round that is that of this round.
 pub crash-of-round : (r round step set count : ℕ) → 1 ≤ r → round ≡ r → faultFrom round step set count ≡ crashes r (pointFrom step set count)
@@ -20,23 +19,14 @@ crash-of-round r round step set count g e =
     rw e (simp ne-eqb)
 
 -- What holds of a correct process, and of one that crashes in this round, holds of the fault that the numbers stand for.
-pub any-fault : (round step set count : ℕ) (P : Fault → Type 0) → P correct → ((point : CrashPoint) → P (crashes round point)) → P (faultFrom round step set count)
+pub any-fault : (round step set count : ℕ) (P : Fault → Type 0) → P correct → ((point : CrashPoint) → P (crashes round point))
+    → P (faultFrom round step set count)
 unfolding faultFrom
 any-fault round step set count P without crash = by-round (eqb round 0)
   where
     by-round : (b : Bool) → P (cond b correct (crashes round (pointFrom step set count)))
     by-round true = without
     by-round false = crash _
-
--- What holds of each decided and each crashed state holds of the state that an end other than 0 stands for.
-pub any-ended : (end round value : ℕ) (P : State → Type 0) → ((k v : ℕ) → P (decided k v)) → ((k : ℕ) → P (crashed k)) → (end ≡ 0 → ⊥)
-    → P (stateByEnd end round value)
-unfolding stateByEnd
-any-ended end round value P one two h = simp ne-eqb (by-end (eqb end 1))
-  where
-    by-end : (b : Bool) → P (cond b (decided round value) (crashed round))
-    by-end true = one _ _
-    by-end false = two _
 
 -- The points of the steps.
 module _ (step set count : ℕ) where

@@ -8,14 +8,14 @@ use borrow.Author.Tests.{eq-eqb, ne-eqb, ltb-true, ltb-false, lt-ltb, le-ltb}
 use Rattle.general.specs.Bits.{member, setOf}
 use Rattle.general.proofs.Bits.{member-above}
 use Rattle.general.proofs.Sets.{is-set, set-same, set-empty}
-use Rattle.protocol.specs.Message.{Reach, none, dataOnly, all, getsData, getsCommit}
+use Rattle.protocol.specs.Message.{Reach, none, all, getsData, getsCommit}
 use Rattle.protocol.specs.Instance.{Fault, crashes, CrashPoint, beforeSending, duringData, duringCommits, pointFrom}
 use Rattle.protocol.specs.Delivery.{amongFirst, reachAt, reachIn, reach}
 use Rattle.protocol.specs.WellFormed.{PointAllowed, FaultAllowed}
 use Rattle.protocol.proofs.CountsReached.{data-or-none, all-get-data, no-commit, commit-or-data, among-above}
 use Rattle.tables.specs.InstanceReading.{faultFrom}
 use Rattle.transitions.specs.declared.Sent.{Sent}
-use Rattle.transitions.specs.Sending.{sendingBy}
+use Rattle.transitions.specs.Sending.{SendingAllowed, sendingBy}
 use Rattle.transitions.proofs.Cases.{crash-of-round, any-fault, at-step-0, at-step-1, at-step-2}
 
 abbrev sentTo : (coordinator reached committed : ℕ) → Sent
@@ -48,10 +48,25 @@ module _ (n r : ℕ) (fault : Fault) (gets : Reach → Bool) (nothing : gets non
   to-none : ((p : ℕ) → gets (reachIn n fault r p) ≡ false) → 0 ≡ setOf n (λ p. gets (reach n fault r p))
   to-none nobody = set-empty n (λ p. false) (λ p _ _. refl) ∙ set-above (λ p. false) (λ p _. nobody p) (λ p _ _. refl)
 
--- By the numbers of its fault: it does not crash in its round, or it does, at this step.
-module _ (n r round step set count : ℕ) where
+-- A coordinator whose crash round is another sends to all above it.
+module _ (n r round step set count : ℕ) (other : round ≡ r → ⊥) where
+  all-reached : (p : ℕ) → reachIn n (faultFrom round step set count) r p ≡ all
+  unfolding reachIn
+  all-reached p =
+      any-fault round step set count (λ (fault : Fault). reachIn n fault r p ≡ all) refl (λ point. simp (ne-eqb round r other))
+
+  pub whole-data : setOf n (λ p. ltb r p) ≡ setOf n (λ p. getsData (reach n (faultFrom round step set count) r p))
+  unfolding getsData
+  whole-data = to-all n r _ getsData refl (λ p. ap getsData (all-reached p))
+
+  pub whole-commits : setOf n (λ p. ltb r p) ≡ setOf n (λ p. getsCommit (reach n (faultFrom round step set count) r p))
+  unfolding getsCommit
+  whole-commits = to-all n r _ getsCommit refl (λ p. ap getsCommit (all-reached p))
+
+-- One that crashes in its round, by the step.
+module _ (n r step set count : ℕ) where
   abbrev fault : Fault
-  fault = faultFrom round step set count
+  fault = crashes r (pointFrom step set count)
 
   abbrev DataTo : ℕ → Type 0
   DataTo s = s ≡ setOf n (λ p. getsData (reach n fault r p))
@@ -59,62 +74,62 @@ module _ (n r round step set count : ℕ) where
   abbrev CommitsTo : ℕ → Type 0
   CommitsTo s = s ≡ setOf n (λ p. getsCommit (reach n fault r p))
 
-  all-reached : (round ≡ r → ⊥) → (p : ℕ) → reachIn n fault r p ≡ all
+  by-point : (point : CrashPoint) → pointFrom step set count ≡ point → (p : ℕ) → reachIn n fault r p ≡ reachAt n point p
   unfolding reachIn
-  all-reached ne p = any-fault round step set count (λ (f : Fault). reachIn n f r p ≡ all) refl (λ point. simp ne-eqb)
+  by-point point e p = rw e (simp (eq-eqb r r refl))
 
-  pub whole-data : (round ≡ r → ⊥) → DataTo (setOf n (λ p. ltb r p))
-  unfolding getsData
-  whole-data ne = to-all n r fault getsData refl (λ p. ap getsData (all-reached ne p))
+  pub no-data : step ≡ 0 → DataTo 0
+  unfolding getsData reachAt
+  no-data s = to-none n r fault getsData refl (λ p. ap getsData (by-point beforeSending (at-step-0 step set count s) p))
 
-  pub whole-commits : (round ≡ r → ⊥) → CommitsTo (setOf n (λ p. ltb r p))
-  unfolding getsCommit
-  whole-commits ne = to-all n r fault getsCommit refl (λ p. ap getsCommit (all-reached ne p))
+  pub no-commits : step ≡ 0 → CommitsTo 0
+  unfolding getsCommit reachAt
+  no-commits s = to-none n r fault getsCommit refl (λ p. ap getsCommit (by-point beforeSending (at-step-0 step set count s) p))
 
-  module _ (first : 1 ≤ r) (now : round ≡ r) where
-    by-point : (point : CrashPoint) → pointFrom step set count ≡ point → (p : ℕ) → reachIn n fault r p ≡ reachAt n point p
-    unfolding reachIn
-    by-point point e p = rw (crash-of-round r round step set count first now, e) (simp eq-eqb)
+  pub no-commit-yet : step ≡ 1 → CommitsTo 0
+  unfolding getsCommit reachAt
+  no-commit-yet s =
+      let point = at-step-1 step set count s in
+      to-none n r fault getsCommit refl (λ p. ap getsCommit (by-point (duringData set) point p) ∙ no-commit (member p set))
 
-    point-allowed : (t : ℕ) → FaultAllowed n t r fault → PointAllowed n r r (pointFrom step set count)
-    unfolding FaultAllowed
-    point-allowed t allowed = (rw (crash-of-round r round step set count first now) at allowed) .2
+  pub all-data : (step ≡ 0 → ⊥) → (step ≡ 1 → ⊥) → DataTo (setOf n (λ p. ltb r p))
+  unfolding getsData reachAt
+  all-data h g =
+      let point = at-step-2 step set count h g in
+      to-all n r fault getsData refl (λ p. ap getsData (by-point (duringCommits count) point p) ∙ all-get-data (amongFirst n count p))
 
-    pub no-data : step ≡ 0 → DataTo 0
-    unfolding getsData reachAt
-    no-data s = to-none n r fault getsData refl (λ p. ap getsData (by-point beforeSending (at-step-0 step set count s) p))
+  -- A set and a count within their limits.
+  module _ (t : ℕ) (allowed : FaultAllowed n t r fault) where
+    pub some-data : step ≡ 1 → DataTo set
+    unfolding getsData reachAt PointAllowed FaultAllowed
+    some-data s =
+        let point = at-step-1 step set count s in
+        let limits : (r ≡ r) × (set % 2 ^ r ≡ 0) × (set < 2 ^ n) = rw point at (allowed .2) in
+        is-set n set (λ p. member p set) (limits .2) (λ p _ _. refl)
+        ∙ set-above n r fault getsData refl (λ p. member p set)
+        (λ p _. ap getsData (by-point (duringData set) point p) ∙ data-or-none (member p set)) (λ p h g. member-above r set (limits .1) p h g)
 
-    pub no-commits : step ≡ 0 → CommitsTo 0
+    pub count-allowed : (step ≡ 0 → ⊥) → (step ≡ 1 → ⊥) → r + count ≤ n
+    unfolding PointAllowed FaultAllowed
+    count-allowed h g = (rw (at-step-2 step set count h g) at (allowed .2)) .1
+
+    pub some-commits : (step ≡ 0 → ⊥) → (step ≡ 1 → ⊥) → CommitsTo (setOf n (λ p. ltb (n - count) p))
     unfolding getsCommit reachAt
-    no-commits s = to-none n r fault getsCommit refl (λ p. ap getsCommit (by-point beforeSending (at-step-0 step set count s) p))
+    some-commits h g =
+        let few : r + count ≤ n = count-allowed h g in
+        let point = at-step-2 step set count h g in
+        set-above n r fault getsCommit refl (λ p. ltb (n - count) p)
+        (λ p _. ap getsCommit (by-point (duringCommits count) point p) ∙ commit-or-data (amongFirst n count p) ∙ among-above n count p (omega arith))
+        (λ p _ k. le-ltb (n - count) p (omega arith))
 
-    module _ (t : ℕ) (allowed : FaultAllowed n t r fault) where
-      pub some-data : step ≡ 1 → DataTo set
-      unfolding getsData reachAt PointAllowed
-      some-data s =
-          let point = at-step-1 step set count s in
-          let limits : (r ≡ r) × (set % 2 ^ r ≡ 0) × (set < 2 ^ n) = rw point at (point-allowed t allowed) in
-          is-set n set (λ p. member p set) (limits .2) (λ p _ _. refl)
-          ∙ set-above n r fault getsData refl (λ p. member p set)
-          (λ p _. ap getsData (by-point (duringData set) point p) ∙ data-or-none (member p set)) (λ p h g. member-above r set (limits .1) p h g)
+-- The fault of a crash round that is r is that of a crash in round r.
+module _ (n r round step set count : ℕ) (first : 1 ≤ r) (now : round ≡ r) where
+  its-fault : faultFrom round step set count ≡ crashes r (pointFrom step set count)
+  its-fault = crash-of-round r round step set count first now
 
-      pub count-allowed : (step ≡ 0 → ⊥) → (step ≡ 1 → ⊥) → r + count ≤ n
-      unfolding PointAllowed
-      count-allowed h g = (rw (at-step-2 step set count h g) at (point-allowed t allowed)) .1
+  pub interrupted-allowed : SendingAllowed n r (faultFrom round step set count) → SendingAllowed n r (crashes r (pointFrom step set count))
+  interrupted-allowed allowed = rw its-fault at allowed
 
-      pub some-commits : (step ≡ 0 → ⊥) → (step ≡ 1 → ⊥) → CommitsTo (setOf n (λ p. ltb (n - count) p))
-      unfolding getsCommit reachAt
-      some-commits h g =
-          let few : r + count ≤ n = count-allowed h g in
-          set-above n r fault getsCommit refl (λ p. ltb (n - count) p)
-          (λ p _. ap getsCommit (by-point (duringCommits count) (at-step-2 step set count h g) p) ∙ commit-or-data (amongFirst n count p) ∙ among-above n count p (omega arith))
-          (λ p _ k. le-ltb (n - count) p (omega arith))
-
-    pub data-unsplit : (step ≡ 0 → ⊥) → (step ≡ 1 → ⊥) → DataTo (setOf n (λ p. ltb r p))
-    unfolding getsData reachAt
-    data-unsplit h g =
-        to-all n r fault getsData refl (λ p. ap getsData (by-point (duringCommits count) (at-step-2 step set count h g) p) ∙ all-get-data (amongFirst n count p))
-
-    pub commits-unsent : step ≡ 1 → CommitsTo 0
-    unfolding getsCommit reachAt
-    commits-unsent s = to-none n r fault getsCommit refl (λ p. ap getsCommit (by-point (duringData set) (at-step-1 step set count s) p) ∙ no-commit (member p set))
+  pub interrupted-sent : (speaks : Bool) → speaks ≡ true → (s : Sent) → s ≡ sendingBy n r (crashes r (pointFrom step set count)) true
+      → s ≡ sendingBy n r (faultFrom round step set count) speaks
+  interrupted-sent speaks e s sent = sent ∙ rw (e, its-fault)

@@ -7,9 +7,6 @@ ghost use Rattle.protocol.specs.CrashCount.{countsAsCrash};
 ghost use Rattle.tables.specs.InstanceReading.{faultFrom};
 ghost use Rattle.tables.specs.RunReading.{stateByEnd};
 
-// The end of a process that has decided.
-const DECIDED: u8 = 1;
-
 // 1 for a coordinator that begins its round up and undecided: a speaker.
 pub fn speakers_in(r: u8, undecided: u64) -> u8
     requires { ⌜ (1 ≤ r) × (r ≤ 64) ⌝ }
@@ -26,7 +23,7 @@ pub fn counts_as_crash(own: u8, end: u8, ended: u8) -> u8
     if own == 0 {
         return 0;
     }
-    if end == DECIDED {
+    if end == tables::DECIDED {
         if ended < own {
             return 0;
         }

@@ -1,7 +1,8 @@
 // The messages of a round as sets of processes, and what is counted of it (document 01, 'A round'). Numbers and masks alone: no table.
 ghost use mathlib.Core.Path.{_≡_};
-ghost use Prim.Native.Nat.{_≤_};
+ghost use mathlib.Core.Bool.{true};
 ghost use Rattle.general.specs.Bits.{member};
+ghost use Rattle.protocol.specs.Instance.{crashes, pointFrom};
 ghost use Rattle.tables.specs.InstanceReading.{faultFrom};
 ghost use Rattle.transitions.specs.Sending.{sendingBy, SendingAllowed};
 
@@ -19,28 +20,13 @@ pub struct Sent {
     pub committed: u64,
 }
 
-// What coordinator r sends in its round, of which `undecided` are up and undecided as it begins, by the numbers of its fault (crash round 0 if it is correct).
-// It sends if it is one of them, to the processes above it. Commits go to n, n - 1 and so on downward, so the first `count` go to those above n - count.
-pub fn sending(n: u8, r: u8, round: u8, step: u8, set: u64, count: u8, undecided: u64) -> Sent
-    requires { ⌜ SendingAllowed n r (faultFrom round step set count) ⌝ }
-    ensures { λ s. ⌜ s ≡ sendingBy n r (faultFrom round step set count) (member r undecided) ⌝ }
+// What coordinator r, which speaks, sends in the round in which it crashes. Commits go to n, n - 1 and so on downward, so the first `count` of them go to
+// the processes above n - count.
+fn interrupted(n: u8, r: u8, step: u8, set: u64, count: u8) -> Sent
+    requires { ⌜ SendingAllowed n r (crashes r (pointFrom step set count)) ⌝ }
+    ensures { λ s. ⌜ s ≡ sendingBy n r (crashes r (pointFrom step set count)) true ⌝ }
 {
-    if !sets::is_member(r, undecided) {
-        return Sent {
-            coordinator: 0,
-            reached: 0,
-            committed: 0,
-        };
-    }
     let coordinator = sets::only(r);
-    let higher = sets::above(r, n);
-    if round != r {
-        return Sent {
-            coordinator,
-            reached: higher,
-            committed: higher,
-        };
-    }
     if step == BEFORE_SENDING {
         return Sent {
             coordinator,
@@ -55,10 +41,33 @@ pub fn sending(n: u8, r: u8, round: u8, step: u8, set: u64, count: u8, undecided
             committed: 0,
         };
     }
-    let committed = sets::above(n - count, n);
     Sent {
         coordinator,
+        reached: sets::above(r, n),
+        committed: sets::above(n - count, n),
+    }
+}
+
+// What coordinator r sends in its round, of which `undecided` are up and undecided as it begins, by the numbers of its fault (crash round 0 if it is
+// correct). It speaks if it is one of them, and sends to the processes above it.
+pub fn sending(n: u8, r: u8, round: u8, step: u8, set: u64, count: u8, undecided: u64) -> Sent
+    requires { ⌜ SendingAllowed n r (faultFrom round step set count) ⌝ }
+    ensures { λ s. ⌜ s ≡ sendingBy n r (faultFrom round step set count) (member r undecided) ⌝ }
+{
+    if !sets::is_member(r, undecided) {
+        return Sent {
+            coordinator: 0,
+            reached: 0,
+            committed: 0,
+        };
+    }
+    if round == r {
+        return interrupted(n, r, step, set, count);
+    }
+    let higher = sets::above(r, n);
+    Sent {
+        coordinator: sets::only(r),
         reached: higher,
-        committed,
+        committed: higher,
     }
 }
