@@ -106,8 +106,8 @@ module _ (n rest t x : ℕ) (l : List ℕ) where
 
 -- A list on its way: with the members that are left it will be the one at entry with all members.
 pub record Underway (members x : ℕ) (before now : List ℕ) (left : ℕ) : Type 0 where
-  pub word : left < 2 ^ 64
   pub comes : filled left x now ≡ filled members x before
+  pub word : left < 2 ^ 64
 
 pub lowest-inside : (left : ℕ) → 0 < left → left < 2 ^ 64 → trailingZeros 64 left < 64
 lowest-inside left some word = lowest 64 left some word .inside
@@ -118,8 +118,8 @@ module _ (members x : ℕ) (before now : List ℕ) (left : ℕ) (way : Underway 
   one-filled some =
       let found = lowest 64 left some (way .word) in
       record {
-        word = omega (arith, and-le-l left (left - 1));
         comes = fill-lowest left (bitAnd left (left - 1)) (trailingZeros 64 left) x now 64 found ∙ way .comes;
+        word = omega (arith, and-le-l left (left - 1));
       }
 
   -- When no member is left, the list is as it is.

@@ -61,10 +61,10 @@ pub fn fill_bytes(a: &mut [u8; 64], set: u64, x: u8)
 pub fn fill_words(a: &mut [u32; 64], set: u64, x: u32)
     ensures { λ r. ⌜ now (a .exit) ≡ filled set x (now (a .entry)) ⌝ }
 {
-    let mut left = set;
-    while left != 0 {
-        let i = u64::trailing_zeros(left) as usize;
+    let mut rest = set;
+    while rest != 0 {
+        let i = u64::trailing_zeros(rest) as usize;
         a[i] = x;
-        left = left & (left - 1);
+        rest = rest & (rest - 1);
     }
 }

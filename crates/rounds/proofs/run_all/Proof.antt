@@ -34,10 +34,10 @@ returns : tie.Need-returns Inv-loop μ-loop
 returns c = ended-early _ _ _ _ (c .before .before .before .loop .inv) (c .if1 .taken) (omega arith)
 
 sub-k : tie.Need-sub-k Inv-loop μ-loop
-sub-k c = search needs
+sub-k c = omega (arith, limits _ (c .before .before .before .loop .inv .well-formed))
 
 cast-k : tie.Need-cast-k Inv-loop μ-loop
-cast-k c = search needs
+cast-k c = record { fits = omega (arith, limits _ (c .before .before .before .loop .inv .well-formed)) }
 
 element-copy-out-run-round : tie.Need-element-copy-out-run-round Inv-loop μ-loop
 element-copy-out-run-round c = omega (arith, limits _ (c .before .before .before .loop .inv .well-formed))
@@ -46,7 +46,7 @@ element-copy-out-run-round-2 : tie.Need-element-copy-out-run-round-2 Inv-loop μ
 element-copy-out-run-round-2 c = omega (arith, limits _ (c .before .before .before .before .loop .inv .well-formed))
 
 mul-run-round : tie.Need-mul-run-round Inv-loop μ-loop
-mul-run-round c = search needs
+mul-run-round c = record { fits = omega (arith, limits _ (c .before .before .before .before .before .loop .inv .well-formed)) }
 
 element-copy-out-run-round-3 : tie.Need-element-copy-out-run-round-3 Inv-loop μ-loop
 element-copy-out-run-round-3 c = omega (arith, limits _ (c .before .before .before .before .before .loop .inv .well-formed))
@@ -55,7 +55,7 @@ element-copy-out-run-round-4 : tie.Need-element-copy-out-run-round-4 Inv-loop μ
 element-copy-out-run-round-4 c = omega (arith, limits _ (c .before .before .before .before .before .before .loop .inv .well-formed))
 
 mul-run-round-2 : tie.Need-mul-run-round-2 Inv-loop μ-loop
-mul-run-round-2 c = search needs
+mul-run-round-2 c = record { fits = omega (arith, limits _ (c .before .before .before .before .before .before .before .loop .inv .well-formed)) }
 
 array-read-run-round : tie.Need-array-read-run-round Inv-loop μ-loop
 array-read-run-round c = omega (arith, limits _ (c .before .before .before .before .before .before .before .loop .inv .well-formed))

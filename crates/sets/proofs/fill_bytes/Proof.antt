@@ -15,7 +15,7 @@ abbrev μ-loop : tie.MeasureT-loop
 μ-loop a₀ set x left₀ a left = left
 
 loop-holds : tie.Need-loop-holds Inv-loop μ-loop
-loop-holds c = record { word = search needs; comes = refl }
+loop-holds c = record { comes = refl; word = search needs }
 
 cast-i : tie.Need-cast-i Inv-loop μ-loop
 cast-i c = record { fits = omega (arith, lowest-inside _ (omega arith) (c .before .loop .inv .word)) }

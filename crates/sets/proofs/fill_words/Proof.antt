@@ -1,4 +1,4 @@
--- `fill_words` meets its contract. The loop's invariant: the array filled for the members that are left is the array at entry filled for all. Assumes nothing.
+-- `fill_words` meets its contract. The loop's invariant: the array filled for the members that are rest is the array at entry filled for all. Assumes nothing.
 use mathlib.Core.Path.{refl}
 use Prim.Native.Nat.{_-_}
 use native.Mathlib.Omega.{arith}
@@ -9,13 +9,13 @@ use Rattle.sets.proofs.fill_words.Statement.{statement}
 use Rattle.sets.proofs.fill_words.Tie as tie
 
 abbrev Inv-loop : tie.InvT-loop
-Inv-loop a₀ set x left₀ a left = Underway set x a₀ a left
+Inv-loop a₀ set x rest₀ a rest = Underway set x a₀ a rest
 
 abbrev μ-loop : tie.MeasureT-loop
-μ-loop a₀ set x left₀ a left = left
+μ-loop a₀ set x rest₀ a rest = rest
 
 loop-holds : tie.Need-loop-holds Inv-loop μ-loop
-loop-holds c = record { word = search needs; comes = refl }
+loop-holds c = record { comes = refl; word = search needs }
 
 cast-i : tie.Need-cast-i Inv-loop μ-loop
 cast-i c = record { fits = omega (arith, lowest-inside _ (omega arith) (c .before .loop .inv .word)) }
@@ -26,11 +26,11 @@ mul-a c = record { fits = omega (arith, lowest-inside _ (omega arith) (c .before
 element-write-a : tie.Need-element-write-a Inv-loop μ-loop
 element-write-a c = lowest-inside _ (omega arith) (c .before .loop .inv .word)
 
-sub-left : tie.Need-sub-left Inv-loop μ-loop
-sub-left c = omega arith
+sub-rest : tie.Need-sub-rest Inv-loop μ-loop
+sub-rest c = omega arith
 
 loop-less : tie.Need-loop-less Inv-loop μ-loop
-loop-less c = omega (arith, and-le-r (c .before .loop .left) (c .before .loop .left - 1))
+loop-less c = omega (arith, and-le-r (c .before .loop .rest) (c .before .loop .rest - 1))
 
 loop-again : tie.Need-loop-again Inv-loop μ-loop
 loop-again c = one-filled _ _ _ _ _ (c .before .loop .inv) (omega arith)
@@ -48,7 +48,7 @@ fill-words-spec =
     cast-i
     mul-a
     element-write-a
-    sub-left
+    sub-rest
     loop-less
     loop-again
     returns)

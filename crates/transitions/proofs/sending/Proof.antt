@@ -1,5 +1,5 @@
 -- `transitions::sending` meets its contract: one law for each answer. Assumes nothing.
-use mathlib.Core.Path.{_≡_, sym, _∙_}
+use mathlib.Core.Path.{sym, _∙_}
 use native.Mathlib.Omega.{arith}
 use borrow.Author.Needs.{needs}
 use borrow.Author.Tests.{not-true, not-false}
@@ -20,7 +20,8 @@ interrupted-requires c κs = interrupted-allowed _ _ _ _ _ _ (omega arith) (omeg
 returns-2 : tie.Need-returns-2
 returns-2 c =
     let test = c .before .before in
-    interrupted-sent _ _ _ _ _ _ (omega arith) (omega arith) _ (sym (test .before .is-member .ensures) ∙ not-false _ (test .if1 .left)) _ (c .interrupted .ensures)
+    interrupted-sent _ _ _ _ _ _ (omega arith) (omega arith) _ (sym (test .before .is-member .ensures) ∙ not-false _ (test .if1 .left)) _
+    (c .interrupted .ensures)
 
 above-requires : tie.Need-above-requires
 above-requires c κs = search needs
