@@ -1,7 +1,7 @@
 // The checks of a ticket's lines behind refusals 4, 7 and 8 (document 01, 'Refused calls'), each equal to its definition.
 use formats::FailureLine;
 ghost use mathlib.Core.Path.{_≡_};
-ghost use Prim.Native.Nat.{_-_, _^_, _≤_};
+ghost use Prim.Native.Nat.{_≤_};
 ghost use Rattle.protocol.specs.Instance.{withinLimits};
 ghost use Rattle.formats.specs.FailureLine.{placesCrash, allBetween, suitsStep};
 
@@ -40,22 +40,13 @@ pub fn places_crash(n: u8, t: u8, last: u8, l: FailureLine) -> bool
     l.step <= 2
 }
 
-// The set of processes 1 to p. (A shift by 64 is not allowed.)
-fn first_processes(p: u8) -> u64
-    requires { ⌜ (1 ≤ p) × (p ≤ 64) ⌝ }
-    ensures { λ r. ⌜ r ≡ 2 ^ p - 1 ⌝ }
-{
-    let highest: u64 = 1u64 << (p - 1);
-    ((highest - 1) << 1) + 1
-}
-
 // A set of processes all above p and at most n.
 fn all_between(p: u8, n: u8, reached: u64) -> bool
     requires { ⌜ (1 ≤ p) × (p ≤ n) × (n ≤ 64) ⌝ }
     ensures { λ r. ⌜ r ≡ allBetween p n reached ⌝ }
 {
-    let not_above = reached & first_processes(p);
-    let at_most_n = reached & first_processes(n);
+    let not_above = reached & sets::first_processes(p);
+    let at_most_n = reached & sets::first_processes(n);
     if not_above != 0 {
         return false;
     }

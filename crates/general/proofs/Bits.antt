@@ -1,4 +1,5 @@
--- Sets of processes as bits: `ones64` is the library's count of ones, the size of a set of processes above p, of n, the count of ones as the number of members, and the mask of the processes 1 to p. Assumes nothing.
+-- Sets of processes as bits: `ones64` is the library's count of ones, the size of a set of processes above p, of n, the count of ones as the number of
+-- members, and the mask of the processes 1 to p. Assumes nothing.
 use mathlib.Core.List.{List, [], _∷_}
 use mathlib.Core.Path.{_≡_, refl, sym, ap, ap₂, _∙_}
 use mathlib.Core.Bool.{Bool, true, false, cond}
@@ -49,7 +50,7 @@ onesIn-suc (suc k) set =
     omega arith
 
 -- Digit k, counted from 0, stands for process k + 1.
-digit-member : (k set : ℕ) → set / 2 ^ k % 2 ≡ cond (member (suc k) set) 1 0
+pub digit-member : (k set : ℕ) → set / 2 ^ k % 2 ≡ cond (member (suc k) set) 1 0
 unfolding member
 digit-member k set = rw same (by-test (eqb (set / 2 ^ k % 2) 1) refl)
   where
@@ -117,7 +118,10 @@ module _ (p : ℕ) (positive : 1 ≤ p) (small : p ≤ 64) where
   double : 2 ^ p ≡ 2 ^ (p - 1) * 2
   double = let e : p ≡ suc (p - 1) = omega arith in ap (λ (k : ℕ). 2 ^ k) e ∙ pow-suc 2 (p - 1)
 
-  -- The highest bit of the mask is there after a shift by p - 1.
+  -- Process p alone, by a shift by p - 1: the highest bit of the mask.
+  pub highest : 1 * 2 ^ (p - 1) % 2 ^ 64 ≡ 2 ^ (p - 1)
+  highest = omega (arith, highest-fits)
+
   pub highest-positive : 1 ≤ 1 * 2 ^ (p - 1) % 2 ^ 64
   highest-positive = omega (arith, highest-fits, pow-pos (p - 1))
 

@@ -4,4 +4,6 @@ pub mod Bytes
 pub mod BigEndian
 pub mod Bits
 pub mod Indexed
+pub mod Sets
+pub mod Filling
 pub mod Overwrite

@@ -1,4 +1,4 @@
+pub mod Indexed
 pub mod Bits
 pub mod BigEndian
-pub mod Indexed
 pub mod Text

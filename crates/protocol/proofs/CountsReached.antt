@@ -23,28 +23,28 @@ use Rattle.protocol.specs.WellFormed.{WellFormed, PointAllowed, FaultAll
 use Rattle.protocol.specs.CountsReached.{reachedIn, reachedTo, CountedAsReached, CountsReached}
 use Rattle.protocol.proofs.Pointwise.{length-states}
 
-data-or-none : (b : Bool) → getsData (cond b dataOnly none) ≡ b
+pub data-or-none : (b : Bool) → getsData (cond b dataOnly none) ≡ b
 unfolding getsData
 data-or-none true = refl
 data-or-none false = refl
 
-all-get-data : (b : Bool) → getsData (cond b all dataOnly) ≡ true
+pub all-get-data : (b : Bool) → getsData (cond b all dataOnly) ≡ true
 unfolding getsData
 all-get-data true = refl
 all-get-data false = refl
 
-no-commit : (b : Bool) → getsCommit (cond b dataOnly none) ≡ false
+pub no-commit : (b : Bool) → getsCommit (cond b dataOnly none) ≡ false
 unfolding getsCommit
 no-commit true = refl
 no-commit false = refl
 
-commit-or-data : (b : Bool) → getsCommit (cond b all dataOnly) ≡ b
+pub commit-or-data : (b : Bool) → getsCommit (cond b all dataOnly) ≡ b
 unfolding getsCommit
 commit-or-data true = refl
 commit-or-data false = refl
 
 -- The first commits go to the processes above n - sent.
-among-above : (n sent p : ℕ) → sent ≤ n → amongFirst n sent p ≡ ltb (n - sent) p
+pub among-above : (n sent p : ℕ) → sent ≤ n → amongFirst n sent p ≡ ltb (n - sent) p
 unfolding amongFirst
 among-above n sent p h =
     same-test (ltb n (p + sent)) (ltb (n - sent) p)

@@ -1,6 +1,6 @@
 -- The count of the failure lines that are not idle, process by process: what has been counted, and what is left to count. Assumes nothing.
 use mathlib.Core.List.{List}
-use mathlib.Core.Path.{_≡_, refl, _∙_}
+use mathlib.Core.Path.{_≡_, sym, _∙_}
 use Prim.Native.Nat.{ℕ, suc, _+_, _-_, _≤_, _<_}
 use native.Mathlib.Omega.{arith}
 use lib.ListN.{length, getD, drop, drop-of-length-le}
@@ -12,10 +12,9 @@ use Rattle.protocol.proofs.CrashCount.{counts-once}
 use Rattle.tables.specs.declared.InstanceTable.{InstanceTable}
 use Rattle.tables.specs.declared.RunTable.{RunTable}
 use Rattle.tables.specs.InstanceReading.{faultFrom, instanceOf}
-use Rattle.tables.specs.RunReading.{statesIn}
-use Rattle.tables.proofs.Places.{length-pattern, length-statesIn}
-use Rattle.transitions.specs.Entries.{entryState, entryFault}
-use Rattle.rounds.proofs.Reading.{entryOf, faultEntryOf, fault-read, state-read}
+use Rattle.tables.specs.RunReading.{stateByEnd, statesIn}
+use Rattle.tables.proofs.Places.{length-pattern, length-statesIn, fault-at, state-in}
+use Rattle.transitions.proofs.Counting.{by-round-and-end}
 
 -- The faults and the states from process p on.
 abbrev restCount : List Fault → List State → ℕ → ℕ
@@ -34,8 +33,8 @@ unfolding crashCount
 none-left faults states p h = rw (drop-of-length-le faults {i = p - 1} (omega arith))
 
 -- A failure line counts once at most, by the number that the code has for it.
-pub counted-once : (fault : Fault) (s : State) (k : ℕ) → k ≡ countsAsCrash fault s → k ≤ 1
-counted-once fault s k e = rw e (counts-once fault s)
+pub counted-once : (own end ended k : ℕ) → k ≡ countsAsCrash (faultFrom own 0 0 0) (stateByEnd end ended 0) → k ≤ 1
+counted-once own end ended k e = rw e (counts-once (faultFrom own 0 0 0) (stateByEnd end ended 0))
 
 -- f counts the processes below p.
 pub record CountedBelow (x : InstanceTable) (run : RunTable) (f p : ℕ) : Type 0 where
@@ -55,19 +54,20 @@ module _ (x : InstanceTable) (run : RunTable) where
 
     -- One process more.
     pub counted-more : length (run .ends) ≡ 64 → (f p k : ℕ) → CountedBelow x run f p → p ≤ x .n
-        → ((step set count : ℕ) → k ≡ countsAsCrash (faultFrom (getD (x .rounds) (p - 1) 0) step set count) (entryState (entryOf run p)))
+        → k ≡ countsAsCrash (faultFrom (getD (x .rounds) (p - 1) 0) 0 0 0) (stateByEnd (getD (run .ends) (p - 1) 0) (getD (run .ended) (p - 1) 0) 0)
         → CountedBelow x run (f + k) (p + 1)
     unfolding faultOf stateOf
     counted-more entries f p k so-far h counting =
-        let of-k = counting (getD (x .steps) (p - 1) 0) (getD (x .sets) (p - 1) 0) (getD (x .counts) (p - 1) 0) in
         let size : length (statesIn (x .n) run) ≡ x .n = length-statesIn (x .n) run (omega arith) in
-        let its-fault = fault-read x faults limit p _ (omega arith) h refl in
-        let its-state = state-read (x .n) run entries limit p _ (omega arith) h refl in
-        let counts : k ≡ countsAsCrash (faultOf (instanceOf x) p) (stateOf (statesIn (x .n) run) p) = of-k ∙ rw (its-fault, its-state) in
+        let its-fault = fault-at x p (omega arith) (omega arith) h in
+        let its-state = state-in (x .n) run p (omega arith) (omega arith) h in
+        let counts : k ≡ countsAsCrash (faultOf (instanceOf x) p) (stateOf (statesIn (x .n) run) p) =
+        counting ∙ sym (rw (its-fault, its-state) (by-round-and-end _ _ _ _ _ _ _))
+        in
         let step = count-one (instanceOf x .pattern) (statesIn (x .n) run) p (omega arith) (omega (arith, length-pattern x (omega arith))) (omega arith) in
         record {
           first = omega arith;
           last = omega arith;
-          at-most = omega (arith, so-far .at-most, counted-once (entryFault (faultEntryOf x p)) (entryState (entryOf run p)) k of-k);
+          at-most = omega (arith, so-far .at-most, counted-once _ _ _ k counting);
           rest = omega (arith, so-far .rest, counts, step);
         }

@@ -1,6 +1,7 @@
 pub mod Reading
-pub mod Undecided
-pub mod Counted
-pub mod Underway
-pub mod Whole
+pub mod Becoming
+pub mod Stored
+pub mod RoundDone
+pub mod DyingSets
 pub mod Crashes
+pub mod Whole

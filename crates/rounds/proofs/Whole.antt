@@ -1,103 +1,192 @@
 -- The whole run: its start, one round more, and its end, early or not; over the tables. Assumes nothing.
-use mathlib.Core.Path.{_≡_, sym, ap, _∙_}
-use mathlib.Core.Bool.{Bool, true, false}
-use Prim.Native.Nat.{ℕ, suc, _+_, _-_, _≤_, _<_}
+use mathlib.Core.List.{List}
+use mathlib.Core.Path.{_≡_, refl, sym, ap, _∙_}
+use mathlib.Core.Bool.{Bool, true, false, false≢true}
+use Prim.Native.Nat.{ℕ, suc, _+_, _-_, _^_, _≤_, _<_}
 use native.Mathlib.Omega.{arith}
-use lib.ListN.{length, getD, length-map}
+use lib.ListN.{length, getD, take, length-map, length-take}
 use lib.Seq.{getD-take, length-take-le}
+use Rattle.general.specs.Bits.{member}
+use Rattle.general.proofs.Indexed.{length-mapFrom}
+use Rattle.general.proofs.Sets.{member-none, member-set, first-set, set-same, set-empty}
+use Rattle.protocol.specs.Instance.{Fault, faultOf, proposalOf}
 use Rattle.protocol.specs.Round.{undecided, stateOf}
-use Rattle.protocol.specs.Undecided.{anyUndecided}
-use Rattle.protocol.specs.Run.{Run, initial, withRound, runTo, runOf}
+use Rattle.protocol.specs.Undecided.{isUndecided, anyUndecided}
+use Rattle.protocol.specs.Run.{Run, initial, runTo, runOf}
 use Rattle.protocol.specs.WellFormed.{WellFormed}
-use Rattle.protocol.proofs.Pointwise.{states-ext, initial-state}
-use Rattle.protocol.specs.Instance.{proposalOf}
+use Rattle.protocol.proofs.Pointwise.{states-ext, length-states, initial-state}
+use Rattle.protocol.proofs.Undecided.{none-undecided, not-any}
 use Rattle.protocol.proofs.Ended.{run-ended}
 use Rattle.protocol.proofs.Counts.{speakers-le, data-sent-le, commits-sent-le}
 use Rattle.tables.specs.declared.InstanceTable.{InstanceTable}
 use Rattle.tables.specs.declared.RunTable.{RunTable}
-use Rattle.tables.specs.InstanceReading.{instanceOf}
-use Rattle.tables.specs.RunReading.{stateByEnd, statesIn, runFrom}
-use Rattle.tables.proofs.Places.{processes-of, resilience-of, state-in, length-statesIn}
-use Rattle.rounds.specs.RoundAllowed.{RoundAllowed}
+use Rattle.tables.specs.InstanceReading.{faultFrom, instanceOf}
+use Rattle.tables.specs.RunReading.{stateByEnd, stateIn, statesIn, runFrom}
+use Rattle.tables.proofs.Places.{processes-of, resilience-of, fault-at, state-in, length-statesIn}
+use Rattle.transitions.proofs.Cases.{crashes-by-round, round-within}
+use Rattle.rounds.specs.CrashSets.{CrashRounds, CrashSets}
+use Rattle.rounds.specs.Round.{undecidedSet, RoundAllowed, RoundOf, RoundRun}
 use Rattle.rounds.proofs.Reading.{limits}
 
--- The run as round r begins, one of rounds 1 to t + 1 or the one after them.
-pub record AtRound (x : InstanceTable) (run : RunTable) (r : ℕ) : Type 0 where
+-- The run as round r begins, one of rounds 1 to t + 1 or the one after them; and the sets of those that crash in each round.
+pub record AtRound (x : InstanceTable) (dying : List ℕ) (run : RunTable) (r : ℕ) : Type 0 where
   pub well-formed : WellFormed (instanceOf x)
+  pub places : length (x .rounds) ≡ 64
+  pub crashing : CrashSets (x .n) (x .rounds) dying
   pub first : 1 ≤ r
   pub last : r ≤ x .t + 2
+  pub kept : run .undecided ≡ undecidedSet (x .n) run
   pub so-far : runFrom (x .n) run ≡ runTo (instanceOf x) (r - 1)
 
--- A table whose ends and counts are 0 and whose values are the proposals is that of the run as round 1 begins.
-module _ (x : InstanceTable) (run : RunTable) (w : WellFormed (instanceOf x)) (proposals : length (x .values) ≡ 64) (entries : length (run .ends) ≡ 64)
-    (none-ended : (k : ℕ) → k < 64 → getD (run .ends) k 0 ≡ 0) (values : run .values ≡ x .values) where
+-- The fault that a table's numbers stand for.
+abbrev numbered : InstanceTable → ℕ → Fault
+numbered x p = faultFrom (getD (x .rounds) (p - 1) 0) (getD (x .steps) (p - 1) 0) (getD (x .sets) (p - 1) 0) (getD (x .counts) (p - 1) 0)
+
+module _ (x : InstanceTable) (w : WellFormed (instanceOf x)) (places : length (x .rounds) ≡ 64) where
   limit : x .n ≤ 64
   limit = limits x w .1
 
+  its-fault : (p : ℕ) → 1 ≤ p → p ≤ x .n → faultOf (instanceOf x) p ≡ numbered x p
+  its-fault p h g = fault-at x p (omega (arith, limit)) h g
+
+  pub crash-rounds : CrashRounds (x .n) (x .rounds)
+  crash-rounds = record { at-most-64 = limit; each = each }
+    where
+      each : (p : ℕ) → 1 ≤ p → p ≤ x .n → getD (x .rounds) (p - 1) 0 ≤ 64
+      each p h g =
+          let allowed = w .faults-allowed p h (rw processes-of g) in
+          omega (arith, limits x w, round-within _ _ p _ _ _ _ (rw (its-fault p h g, resilience-of x) at allowed))
+
+-- A table whose ends and counts are 0 and whose values are the proposals is that of the run as round 1 begins.
+module _ (x : InstanceTable) (dying : List ℕ) (run : RunTable) (w : WellFormed (instanceOf x)) (places : length (x .rounds) ≡ 64)
+    (crashing : CrashSets (x .n) (x .rounds) dying) (proposals : length (x .values) ≡ 64) (entries : length (run .ends) ≡ 64)
+    (none-ended : (k : ℕ) → k < 64 → getD (run .ends) k 0 ≡ 0) (values : run .values ≡ x .values) where
   proposals-length : length (instanceOf x .proposals) ≡ x .n
   unfolding instanceOf
-  proposals-length = length-take-le (x .n) (x .values) (omega (arith, limit))
-
-  states-length : length (statesIn (x .n) run) ≡ x .n
-  states-length = length-statesIn (x .n) run (omega (arith, limit))
+  proposals-length = length-take-le (x .n) (x .values) (omega (arith, limit x w places))
 
   start-state : (p : ℕ) → 1 ≤ p → p ≤ x .n → stateOf (statesIn (x .n) run) p ≡ undecided (proposalOf (instanceOf x) p)
   unfolding proposalOf instanceOf stateByEnd
   start-state p h g =
-      state-in (x .n) run p (omega (arith, limit)) h g
-      ∙ rw (none-ended (p - 1) (omega (arith, limit)), values, getD-take (x .n) (x .values) (p - 1) 0 (omega arith))
+      state-in (x .n) run p (omega (arith, limit x w places)) h g
+      ∙ rw (none-ended (p - 1) (omega (arith, limit x w places)), values, getD-take (x .n) (x .values) (p - 1) 0 (omega arith))
 
   start-states : statesIn (x .n) run ≡ initial (instanceOf x) .states
   unfolding initial
   start-states =
-      states-ext (x .n) (statesIn (x .n) run) (initial (instanceOf x) .states) states-length (length-map (instanceOf x .proposals) undecided ∙ proposals-length)
+      states-ext (x .n) (statesIn (x .n) run) (initial (instanceOf x) .states) (length-statesIn (x .n) run (omega (arith, limit x w places)))
+      (length-map (instanceOf x .proposals) undecided ∙ proposals-length)
       λ p h g. start-state p h g ∙ sym (initial-state (instanceOf x) p h (omega (arith, proposals-length)))
 
-  pub at-first-round : run .rounds ≡ 0 → run .speakers ≡ 0 → run .sent ≡ 0 → run .commits ≡ 0 → AtRound x run 1
-  unfolding runFrom runTo initial
-  at-first-round rounds speakers sent commits =
-      record { well-formed = w; first = omega arith; last = omega arith; so-far = rw (start-states, rounds, speakers, sent, commits) }
+  all-undecided : 2 ^ (x .n) - 1 ≡ undecidedSet (x .n) run
+  unfolding isUndecided
+  all-undecided = first-set (x .n) ∙ set-same (x .n) _ _ (λ p h g. sym (ap isUndecided (start-state p h g)))
 
-module _ (x : InstanceTable) (run : RunTable) (r : ℕ) (now : AtRound x run r) where
+  pub at-first-round : run .rounds ≡ 0 → run .speakers ≡ 0 → run .sent ≡ 0 → run .commits ≡ 0 → run .undecided ≡ 2 ^ (x .n) - 1 → AtRound x dying run 1
+  unfolding runFrom runTo initial
+  at-first-round rounds speakers sent commits first-n =
+      record {
+        well-formed = w;
+        places = places;
+        crashing = crashing;
+        first = omega arith;
+        last = omega arith;
+        kept = first-n ∙ all-undecided;
+        so-far = rw (start-states, rounds, speakers, sent, commits);
+      }
+
+-- The table's set tells whether a process is up and undecided.
+module _ (n : ℕ) (run : RunTable) (entries : n ≤ length (run .ends)) (kept : run .undecided ≡ undecidedSet n run) where
+  nobody : run .undecided ≡ 0 → anyUndecided (statesIn n run) ≡ false
+  unfolding isUndecided
+  nobody none =
+      not-any (statesIn n run)
+      λ p v h g e.
+      let inside : p ≤ n = omega (arith, length-statesIn n run entries) in
+      let out : member p (run .undecided) ≡ false = rw none (member-none p) in
+      let within : member p (run .undecided) ≡ true = ap (member p) kept ∙ member-set n _ p h inside ∙ ap isUndecided e in
+      false≢true (sym out ∙ within)
+
+  somebody : (run .undecided ≡ 0 → ⊥) → anyUndecided (statesIn n run) ≡ true
+  somebody some = by-test (anyUndecided (statesIn n run)) refl
+    where
+      by-test : (b : Bool) → anyUndecided (statesIn n run) ≡ b → b ≡ true
+      by-test true e = refl
+      by-test false e = absurd (some (kept ∙ sym (set-empty n _ (λ p _ _. none-undecided (statesIn n run) p e))))
+
+module _ (x : InstanceTable) (dying : List ℕ) (run : RunTable) (r : ℕ) (now : AtRound x dying run r) where
+  -- The table has an end for each process, as the run has a state for each.
+  entries : x .n ≤ length (run .ends)
+  unfolding runFrom statesIn
+  entries =
+      let size : length (statesIn (x .n) run) ≡ x .n =
+      ap (λ (known : Run). length (known .states)) (now .so-far) ∙ length-states (instanceOf x) (r - 1) ∙ now .well-formed .all-propose ∙ processes-of x
+      in
+      omega (arith, size, length-mapFrom (stateIn run) 1 (take (x .n) (run .ends)), length-take (x .n) (run .ends))
+
   -- Each of rounds 1 to t + 1 may be run on the table, as long as a process is up and undecided.
-  pub round-allowed : (q : ℕ) → 1 ≤ q → q ≤ x .t + 1 → r ≤ x .t + 1 → anyUndecided (statesIn (x .n) run) ≡ true → RoundAllowed (x .n) q run
+  pub round-allowed : r ≤ x .t + 1 → (run .undecided ≡ 0 → ⊥) → RoundAllowed (x .n) r (numbered x r) run
   unfolding runFrom
-  round-allowed q first last g undecided-left =
+  round-allowed g some =
       let w = now .well-formed in
       let speakers : run .speakers ≡ runTo (instanceOf x) (r - 1) .speakers = ap (λ (known : Run). known .speakers) (now .so-far) in
       let sent : run .sent ≡ runTo (instanceOf x) (r - 1) .dataSent = ap (λ (known : Run). known .dataSent) (now .so-far) in
       let commits : run .commits ≡ runTo (instanceOf x) (r - 1) .commitsSent = ap (λ (known : Run). known .commitsSent) (now .so-far) in
       let inside : r - 1 ≤ instanceOf x .processes = rw processes-of (omega (arith, limits x w)) in
+      let last : r ≤ x .n = omega (arith, limits x w) in
+      let allowed = w .faults-allowed r (now .first) (rw processes-of last) in
       record {
-        first = first;
-        last = omega (arith, limits x w);
-        at-most-64 = limits x w .1;
-        some-undecided = undecided-left;
+        sender =
+            record {
+              first = now .first;
+              last = last;
+              at-most-64 = limits x w .1;
+              resilience = instanceOf x .resilience;
+              allowed = rw (its-fault x w (now .places) r (now .first) last, processes-of x) at allowed;
+            };
+        some-undecided = somebody (x .n) run entries (now .kept) some;
+        kept = now .kept;
         speakers = omega (arith, limits x w, speakers-le (instanceOf x) (r - 1));
         sent = omega (arith, limits x w, data-sent-le (instanceOf x) w (r - 1) inside);
         commits = omega (arith, limits x w, commits-sent-le (instanceOf x) w (r - 1) inside);
       }
 
-  pub at-next-round : (next : RunTable) → r ≤ x .t + 1 → runFrom (x .n) next ≡ withRound (instanceOf x) r (runFrom (x .n) run) → AtRound x next (r + 1)
+  -- What the code takes for round r is that of the instance.
+  round-of : r ≤ x .t + 1 → RoundOf (instanceOf x) (x .n) r (numbered x r) (getD dying (r - 1) 0)
+  round-of g =
+      let w = now .well-formed in
+      record {
+        well-formed = w;
+        processes = processes-of x;
+        coordinator = its-fault x w (now .places) r (now .first) (omega (arith, limits x w));
+        crashing =
+            now .crashing r (now .first) (omega (arith, limits x w))
+            ∙ set-same (x .n) _ _ (λ p h k. rw (its-fault x w (now .places) p h k) (crashes-by-round r _ _ _ _ (now .first)));
+      }
+
+  pub at-next-round : (next : RunTable) → r ≤ x .t + 1 → RoundRun (x .n) r (numbered x r) (getD dying (r - 1) 0) run next → AtRound x dying next (r + 1)
   unfolding runTo
-  at-next-round next g e =
+  at-next-round next g done =
       let number : r + 1 - 1 ≡ suc (r - 1) = omega arith in
       let same : suc (r - 1) ≡ r = omega arith in
       record {
         well-formed = now .well-formed;
+        places = now .places;
+        crashing = now .crashing;
         first = omega arith;
         last = omega arith;
-        so-far = rw number (e ∙ rw (now .so-far, same));
+        kept = done .kept;
+        so-far = rw number (done .round (instanceOf x) (round-of g) ∙ rw (now .so-far, same));
       }
 
   -- A run that has ended before its last round.
-  pub ended-early : (b : Bool) → b ≡ anyUndecided (statesIn (x .n) run) → b ≡ false → r ≤ x .t + 1 → runFrom (x .n) run ≡ runOf (instanceOf x)
+  pub ended-early : run .undecided ≡ 0 → r ≤ x .t + 1 → runFrom (x .n) run ≡ runOf (instanceOf x)
   unfolding runFrom runOf
-  ended-early b e n g =
-      let none : anyUndecided (runTo (instanceOf x) (r - 1) .states) ≡ false =
-      ap (λ (known : Run). anyUndecided (known .states)) (sym (now .so-far)) ∙ sym e ∙ n
+  ended-early none g =
+      let over : anyUndecided (runTo (instanceOf x) (r - 1) .states) ≡ false =
+      ap (λ (known : Run). anyUndecided (known .states)) (sym (now .so-far)) ∙ nobody (x .n) run entries (now .kept) none
       in
-      now .so-far ∙ sym (run-ended (instanceOf x) (r - 1) (suc (instanceOf x .resilience)) none (rw resilience-of (omega arith)))
+      now .so-far ∙ sym (run-ended (instanceOf x) (r - 1) (suc (instanceOf x .resilience)) over (rw resilience-of (omega arith)))
 
   -- A run that has had all its rounds.
   pub ended-late : x .t + 1 < r → runFrom (x .n) run ≡ runOf (instanceOf x)

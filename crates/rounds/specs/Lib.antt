@@ -1,1 +1,2 @@
-pub mod RoundAllowed
+pub mod CrashSets
+pub mod Round

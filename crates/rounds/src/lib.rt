@@ -2,75 +2,65 @@
 // The instance and the run are tables by value; the run goes through each round and comes back.
 ghost use mathlib.Core.Path.{_≡_};
 ghost use Prim.Native.Nat.{_≤_};
-ghost use lib.ListN.{length};
-ghost use Rattle.protocol.specs.Undecided.{anyUndecided};
 ghost use Rattle.protocol.specs.CrashCount.{crashCount};
-ghost use Rattle.protocol.specs.Run.{withRound, runOf};
+ghost use Rattle.protocol.specs.Run.{runOf};
 ghost use Rattle.protocol.specs.WellFormed.{WellFormed};
-ghost use Rattle.tables.specs.declared.RunTable.{RunTable};
-ghost use Rattle.tables.specs.InstanceReading.{instanceOf};
+ghost use Rattle.tables.specs.InstanceReading.{faultFrom, instanceOf};
 ghost use Rattle.tables.specs.RunReading.{statesIn, runFrom};
-ghost use Rattle.rounds.specs.RoundAllowed.{RoundAllowed};
+ghost use Rattle.rounds.specs.Round.{RoundAllowed, RoundRun};
+ghost use Rattle.rounds.specs.CrashSets.{CrashRounds, CrashSets};
 use tables::InstanceTable;
 use tables::RunTable;
-use transitions::Entry;
-use transitions::FaultEntry;
 use transitions::count;
 
-// Whether one of n processes is both up and undecided, by the ends of a run table.
-pub fn any_undecided(ends: &[u8], n: u8) -> bool
-    requires { ⌜ n ≤ length (now ends) ⌝ }
-    ensures { λ b. ⌜ ((run : RunTable) → run .ends ≡ now (ends .entry) → b ≡ anyUndecided (statesIn n run)) ⌝ }
+// The sets of the processes that have the same crash round, that of round r at place r - 1.
+fn crash_sets(rounds: &[u8; 64], n: u8) -> [u64; 64]
+    requires { ⌜ CrashRounds n (now rounds) ⌝ }
+    ensures { λ s. ⌜ CrashSets n (now (rounds .entry)) s ⌝ }
 {
-    let places = n as usize;
-    let mut i = 0;
-    while i < places {
-        if ends[i] == 0 {
-            return true;
-        }
-        i += 1;
-    }
-    false
-}
-
-// Round r, which begins with a process up and undecided: the run as it begins, to the run as it ends, with its message counts.
-// The coordinator's fault and state are those as the round begins.
-pub fn run_round(x: InstanceTable, run: RunTable, r: u8) -> RunTable
-    requires { ⌜ RoundAllowed (x .n) r run ⌝ }
-    ensures { λ next. ⌜ runFrom (x .n) next ≡ withRound (instanceOf x) r (runFrom (x .n) run) ⌝ }
-{
-    let n = x.n;
-    let k = (r - 1) as usize;
-    let fault = FaultEntry {
-        round: x.rounds[k],
-        step: x.steps[k],
-        reached: x.sets[k],
-        count: x.counts[k],
-    };
-    let c = Entry {
-        end: run.ends[k],
-        ended: run.ended[k],
-        value: run.values[k],
-    };
-    let mut next = run;
-    next.rounds = r;
-    next.speakers += count::speakers_in(c);
-    next.sent += count::data_in(n, r, fault, c) as u16;
-    next.commits += count::commits_in(n, r, fault, c) as u16;
+    let mut by_round = [0u64; 64];
     let mut p: u8 = 1;
     while p <= n {
-        let i = (p - 1) as usize;
-        let s = Entry {
-            end: next.ends[i],
-            ended: next.ended[i],
-            value: next.values[i],
-        };
-        let after = transitions::after_round(n, r, p, x.rounds[i], s, fault, c);
-        next.ends[i] = after.end;
-        next.ended[i] = after.ended;
-        next.values[i] = after.value;
+        let own = rounds[(p - 1) as usize];
+        if own != 0 {
+            let k = (own - 1) as usize;
+            by_round[k] = by_round[k] | sets::only(p);
+        }
         p += 1;
     }
+    by_round
+}
+
+// Round r of n processes, which begins with a process up and undecided: the run as it begins, to the run as it ends, with its message counts.
+// The numbers are those of the coordinator's fault, and `dying` is the set of the processes whose crash round is r.
+pub fn run_round(
+    n: u8,
+    r: u8,
+    round: u8,
+    step: u8,
+    set: u64,
+    count: u8,
+    dying: u64,
+    run: RunTable,
+) -> RunTable
+    requires { ⌜ RoundAllowed n r (faultFrom round step set count) run ⌝ }
+    ensures { λ next. ⌜ RoundRun n r (faultFrom round step set count) dying run next ⌝ }
+{
+    let mut next = run;
+    let value = next.values[(r - 1) as usize];
+    let sent = transitions::sending(n, r, round, step, set, count, next.undecided);
+    let crashing = next.undecided & dying;
+    let live = next.undecided ^ crashing;
+    let deciding = live & (sent.coordinator | sent.committed);
+    next.rounds = r;
+    next.speakers += count::speakers_in(r, next.undecided);
+    next.sent += sets::size(sent.reached) as u16;
+    next.commits += sets::size(sent.committed) as u16;
+    sets::fill_words(&mut next.values, live & sent.reached, value);
+    sets::fill_bytes(&mut next.ends, deciding, tables::DECIDED);
+    sets::fill_bytes(&mut next.ends, crashing, tables::CRASHED);
+    sets::fill_bytes(&mut next.ended, deciding | crashing, r);
+    next.undecided = live ^ deciding;
     next
 }
 
@@ -81,22 +71,34 @@ pub fn run_all(x: InstanceTable) -> RunTable
 {
     let n = x.n;
     let last = x.t + 1;
+    let dying = crash_sets(&x.rounds, n);
     let values = x.values;
     let mut run = RunTable {
-        ends: [0; 64],
+        ends: [tables::UNDECIDED; 64],
         ended: [0; 64],
         values: values,
         rounds: 0,
         speakers: 0,
         sent: 0,
         commits: 0,
+        undecided: sets::first_processes(n),
     };
     let mut r: u8 = 1;
     while r <= last {
-        if !any_undecided(&run.ends, n) {
+        if run.undecided == 0 {
             return run;
         }
-        run = run_round(x, run, r);
+        let k = (r - 1) as usize;
+        run = run_round(
+            n,
+            r,
+            x.rounds[k],
+            x.steps[k],
+            x.sets[k],
+            x.counts[k],
+            dying[k],
+            run,
+        );
         r += 1;
     }
     run
@@ -112,12 +114,7 @@ pub fn crash_count(x: InstanceTable, run: RunTable) -> u8
     let mut p: u8 = 1;
     while p <= n {
         let i = (p - 1) as usize;
-        let s = Entry {
-            end: run.ends[i],
-            ended: run.ended[i],
-            value: run.values[i],
-        };
-        f += count::counts_as_crash(x.rounds[i], s);
+        f += count::counts_as_crash(x.rounds[i], run.ends[i], run.ended[i]);
         p += 1;
     }
     f

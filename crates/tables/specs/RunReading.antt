@@ -1,4 +1,5 @@
--- The run that a table stands for (document 01, 'The ticket': 'The run keeps the table of 64 stations, with each one's value, round and end'; the numbers for an end are those of 'The result').
+-- The run that a table stands for (document 01, 'The ticket': 'The run keeps the table of 64 stations, with each one's value, round and end'; the numbers
+-- for an end are those of 'The result').
 use mathlib.Core.List.{List}
 use Prim.Native.Nat.{ℕ, _-_}
 use mathlib.Core.Bool.{cond}

@@ -12,8 +12,15 @@ pub struct InstanceTable {
     pub counts: [u8; 64],
 }
 
+// The ends of a process (document 01, 'The result').
+pub const UNDECIDED: u8 = 0;
+
+pub const DECIDED: u8 = 1;
+
+pub const CRASHED: u8 = 2;
+
 // Document 01: the table of 64 stations, with each one's value, round and end (00 undecided, 01 decided, 02 crashed); and what the run has counted.
-// `ended` is the round of each end, and `sent` the data messages.
+// `ended` is the round of each end, and `sent` the data messages. `undecided` is the set of the processes up and undecided: bit p - 1 just if end p is 00.
 pub struct RunTable {
     pub ends: [u8; 64],
     pub ended: [u8; 64],
@@ -22,4 +29,5 @@ pub struct RunTable {
     pub speakers: u8,
     pub sent: u16,
     pub commits: u16,
+    pub undecided: u64,
 }

@@ -1,4 +1,3 @@
 pub mod Cases
-pub mod Hearing
-pub mod Becoming
+pub mod Reached
 pub mod Counting

@@ -1,119 +1,73 @@
-// What one process hears in a round, what it becomes, and what is counted of it (document 01, 'A round'). Numbers alone: no table.
+// The messages of a round as sets of processes, and what is counted of it (document 01, 'A round'). Numbers and masks alone: no table.
 ghost use mathlib.Core.Path.{_≡_};
-ghost use Prim.Native.Nat.{ℕ, _≤_};
+ghost use mathlib.Core.Bool.{true};
 ghost use Rattle.general.specs.Bits.{member};
-ghost use Rattle.protocol.specs.Delivery.{reach};
-ghost use Rattle.protocol.specs.Round.{received, after};
+ghost use Rattle.protocol.specs.Instance.{crashes, pointFrom};
 ghost use Rattle.tables.specs.InstanceReading.{faultFrom};
-ghost use Rattle.transitions.specs.Entries.{entryState, entryFault};
-ghost use Rattle.transitions.specs.Heard.{reachFrom, messagesReaching};
+ghost use Rattle.transitions.specs.Sending.{sendingBy, SendingAllowed};
 
 pub mod count;
 
-// A process's entry of a run table: its end (00 undecided, 01 decided, 02 crashed), the round of it and its value.
-pub struct Entry {
-    pub end: u8,
-    pub ended: u8,
-    pub value: u32,
-}
+// The steps of a failure line (document 01, 'The ticket'): before sending anything, and while sending data.
+const BEFORE_SENDING: u8 = 0;
 
-// A process's entry of an instance table: its crash round (0 if it is correct), step, set and count.
-pub struct FaultEntry {
-    pub round: u8,
-    pub step: u8,
+const DURING_DATA: u8 = 1;
+
+// Whom the messages of a round reach: the coordinator itself, which decides its own value, those that its data get to and those that its commits get to.
+pub struct Sent {
+    pub coordinator: u64,
     pub reached: u64,
-    pub count: u8,
+    pub committed: u64,
 }
 
-// Whether process p is in a set: bit p - 1, by shift.
-fn is_member(p: u8, set: u64) -> bool
-    requires { ⌜ (1 ≤ p) × (p ≤ 64) ⌝ }
-    ensures { λ b. ⌜ b ≡ member p set ⌝ }
+// What coordinator r, which speaks, sends in the round in which it crashes. Commits go to n, n - 1 and so on downward, so the first `count` of them go to
+// the processes above n - count.
+fn interrupted(n: u8, r: u8, step: u8, set: u64, count: u8) -> Sent
+    requires { ⌜ SendingAllowed n r (crashes r (pointFrom step set count)) ⌝ }
+    ensures { λ s. ⌜ s ≡ sendingBy n r (crashes r (pointFrom step set count)) true ⌝ }
 {
-    (set >> (p - 1)) % 2 == 1
-}
-
-// How far the messages of coordinator r to process p get, by its fault: 0 no message, 1 the data message, 2 the commit too.
-// Commits go to n, n - 1 and so on downward, so the first `count` of them go to the processes above n - count.
-fn reach_to(n: u8, r: u8, fault: FaultEntry, p: u8) -> u8
-    requires { ⌜ (1 ≤ r) × (1 ≤ p) × (p ≤ n) × (n ≤ 64) ⌝ }
-    ensures { λ far. ⌜ reachFrom far ≡ reach n (entryFault fault) r p ⌝ }
-{
-    if p <= r {
-        return 0;
-    }
-    if fault.round != r {
-        return 2;
-    }
-    if fault.step == 0 {
-        return 0;
-    }
-    if fault.step == 1 {
-        if is_member(p, fault.reached) {
-            return 1;
-        }
-        return 0;
-    }
-    if n - p < fault.count {
-        return 2;
-    }
-    1
-}
-
-// What process p hears in round r: how far the messages of the coordinator get, which has this fault and began the round in the state c.
-fn heard(n: u8, r: u8, fault: FaultEntry, c: Entry, p: u8) -> u8
-    requires { ⌜ (1 ≤ r) × (1 ≤ p) × (p ≤ n) × (n ≤ 64) ⌝ }
-    ensures { λ far. ⌜ messagesReaching far (c .value) ≡ received n r (entryFault fault) (entryState c) p ⌝ }
-{
-    if c.end == 0 {
-        return reach_to(n, r, fault, p);
-    }
-    0
-}
-
-// What process p becomes in round r when the messages with this value get so far. Of its fault only the crash round `own` matters, 0 if it is correct.
-fn on_hearing(r: u8, p: u8, own: u8, far: u8, value: u32, s: Entry) -> Entry
-    requires { ⌜ 1 ≤ r ⌝ }
-    ensures { λ e. ⌜ ((step set count : ℕ) → entryState e ≡ after r p (faultFrom own step set count) (messagesReaching far value) (entryState s)) ⌝ }
-{
-    if s.end != 0 {
-        return s;
-    }
-    if own == r {
-        return Entry {
-            end: 2,
-            ended: r,
-            value: 0,
+    let coordinator = sets::only(r);
+    if step == BEFORE_SENDING {
+        return Sent {
+            coordinator,
+            reached: 0,
+            committed: 0,
         };
     }
-    if p == r {
-        return Entry {
-            end: 1,
-            ended: r,
-            value: s.value,
+    if step == DURING_DATA {
+        return Sent {
+            coordinator,
+            reached: set,
+            committed: 0,
         };
     }
-    if far == 0 {
-        return s;
-    }
-    if far == 1 {
-        return Entry {
-            end: 0,
-            ended: 0,
-            value: value,
-        };
-    }
-    Entry {
-        end: 1,
-        ended: r,
-        value: value,
+    Sent {
+        coordinator,
+        reached: sets::above(r, n),
+        committed: sets::above(n - count, n),
     }
 }
 
-// What process p becomes in round r: `own` and s are its crash round and state, `fault` and c the coordinator's fault and state.
-pub fn after_round(n: u8, r: u8, p: u8, own: u8, s: Entry, fault: FaultEntry, c: Entry) -> Entry
-    requires { ⌜ (1 ≤ r) × (1 ≤ p) × (p ≤ n) × (n ≤ 64) ⌝ }
-    ensures { λ e. ⌜ ((step set count : ℕ) → entryState e ≡ after r p (faultFrom own step set count) (received n r (entryFault fault) (entryState c) p) (entryState s)) ⌝ }
+// What coordinator r sends in its round, of which `undecided` are up and undecided as it begins, by the numbers of its fault (crash round 0 if it is
+// correct). It speaks if it is one of them, and sends to the processes above it.
+pub fn sending(n: u8, r: u8, round: u8, step: u8, set: u64, count: u8, undecided: u64) -> Sent
+    requires { ⌜ SendingAllowed n r (faultFrom round step set count) ⌝ }
+    ensures { λ s. ⌜ s ≡ sendingBy n r (faultFrom round step set count) (member r undecided) ⌝ }
 {
-    on_hearing(r, p, own, heard(n, r, fault, c, p), c.value, s)
+    if !sets::is_member(r, undecided) {
+        return Sent {
+            coordinator: 0,
+            reached: 0,
+            committed: 0,
+        };
+    }
+    if round == r {
+        return interrupted(n, r, step, set, count);
+    }
+    let higher = sets::above(r, n);
+    Sent {
+        coordinator: sets::only(r),
+        reached: higher,
+        committed: higher,
+    }
 }

@@ -21,26 +21,20 @@ sub-i c = search needs
 cast-i : tie.Need-cast-i Inv-loop μ-loop
 cast-i c = search needs
 
-element-copy-out-f : tie.Need-element-copy-out-f Inv-loop μ-loop
-element-copy-out-f c = search needs
-
 element-copy-out-counts-as-crash : tie.Need-element-copy-out-counts-as-crash Inv-loop μ-loop
 element-copy-out-counts-as-crash c = search needs
 
-mul-t17 : tie.Need-mul-t17 Inv-loop μ-loop
-mul-t17 c = search needs
-
-element-copy-out-t20 : tie.Need-element-copy-out-t20 Inv-loop μ-loop
-element-copy-out-t20 c = search needs
-
 element-copy-out-counts-as-crash-2 : tie.Need-element-copy-out-counts-as-crash-2 Inv-loop μ-loop
 element-copy-out-counts-as-crash-2 c = search needs
+
+element-copy-out-counts-as-crash-3 : tie.Need-element-copy-out-counts-as-crash-3 Inv-loop μ-loop
+element-copy-out-counts-as-crash-3 c = search needs
 
 counts-as-crash-requires : tie.Need-counts-as-crash-requires Inv-loop μ-loop
 counts-as-crash-requires c κs = search needs
 
 add-f : tie.Need-add-f Inv-loop μ-loop
-add-f c = omega (arith, counted-once _ _ _ (c .counts-as-crash .ensures 0 0 0))
+add-f c = omega (arith, counted-once _ _ _ _ (c .counts-as-crash .ensures))
 
 add-p : tie.Need-add-p Inv-loop μ-loop
 add-p c = omega arith
@@ -63,11 +57,9 @@ crash-count-spec =
     loop-holds
     sub-i
     cast-i
-    element-copy-out-f
     element-copy-out-counts-as-crash
-    mul-t17
-    element-copy-out-t20
     element-copy-out-counts-as-crash-2
+    element-copy-out-counts-as-crash-3
     counts-as-crash-requires
     add-f
     add-p
