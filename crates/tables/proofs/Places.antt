@@ -1,7 +1,7 @@
 -- What a table says of one process, and of how many. Assumes nothing.
 use mathlib.Core.List.{List}
 use mathlib.Core.Path.{_≡_, refl, ap, _∙_}
-use Prim.Native.Nat.{ℕ, _+_, _-_, _≤_, _<_}
+use Prim.Native.Nat.{ℕ, _-_, _≤_}
 use native.Mathlib.Omega.{arith}
 use lib.ListN.{length, getD, take, length-take}
 use lib.Seq.{getD-take}
@@ -50,14 +50,6 @@ pub state-in : (n : ℕ) (run : RunTable) (p : ℕ) → n ≤ length (run .ends)
     → stateOf (statesIn n run) p ≡ stateByEnd (getD (run .ends) (p - 1) 0) (getD (run .ended) (p - 1) 0) (getD (run .values) (p - 1) 0)
 unfolding stateOf statesIn stateIn
 state-in n run p fits h g = at-process (stateIn run) n (run .ends) fits p (crashed 0) h g
-
--- The same, of the process at place i.
-pub state-at-place : (n : ℕ) (run : RunTable) (i : ℕ) → n ≤ length (run .ends) → i < n
-    → stateOf (statesIn n run) (i + 1) ≡ stateByEnd (getD (run .ends) i 0) (getD (run .ended) i 0) (getD (run .values) i 0)
-state-at-place n run i fits h =
-    let place : i + 1 - 1 ≡ i = omega arith in
-    state-in n run (i + 1) fits (omega arith) (omega arith)
-    ∙ ap (λ (k : ℕ). stateByEnd (getD (run .ends) k 0) (getD (run .ended) k 0) (getD (run .values) k 0)) place
 
 pub length-statesIn : (n : ℕ) (run : RunTable) → n ≤ length (run .ends) → length (statesIn n run) ≡ n
 unfolding statesIn
