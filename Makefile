@@ -11,7 +11,7 @@
 # make show-test              explain and picture on every ticket of tests/vectors/
 # make second-test            the second implementation's own tests
 # make wrong-worlds           wrong rules of the protocol, and a counterexample to each claim that fails under them
-# make unused                 list definitions, lemmas and imports that nothing uses
+# make unused                 list definitions, lemmas and imports that nothing uses, and edits that docs/COVERAGE.md names and that are not there
 # make compare                the proved library against the second implementation: SEED=1 COUNT=1000000
 # make bench                  speed of both
 # make fuzz                   a coverage-guided fuzzer over the C interface: SECONDS=60. It needs clang with its fuzzer
@@ -108,6 +108,7 @@ show-test: target/bin/simulate
 
 unused:
 	tools/unused
+	tools/named
 
 second-test:
 	$(SECOND) test --quiet
