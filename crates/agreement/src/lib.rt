@@ -1,12 +1,11 @@
 // The module's C interface (include/agreement.h): every call total on every input, its answer a documented number.
 ghost use mathlib.Core.Path.{_≡_};
 ghost use lib.ListN.{length};
-ghost use Rattle.formats.specs.Running.{running, bufferAfter};
 ghost use Rattle.part_format.specs.Start.{startRefusal, startBytes};
 ghost use Rattle.part_format.specs.Speak.{speakAnswer, speakOutput};
 ghost use Rattle.part_format.specs.Close.{closeRefusal, closeState};
 ghost use Prim.Native.Nat.{_+_, _*_};
-ghost use Rattle.formats.specs.Code.{refusalCode, runCode, SettlesAs};
+ghost use Rattle.formats.specs.Code.{refusalCode, RunCall, SettlesAs};
 use running::RunAnswer;
 use running::SettleAnswer;
 
@@ -20,8 +19,7 @@ fn refusal_code(number: u8, line: u16) -> u64
 // Runs a ticket: the bytes of its result, or 65536 times the refusal plus its line.
 #[no_mangle]
 pub extern "C" fn uc_run(ticket: &[u8], output: &mut [u8]) -> u64
-    ensures { λ r. ⌜ r ≡ runCode (running (now (ticket .entry)) (length (now (output .entry)))) ⌝ }
-    ensures { λ _. ⌜ now (output .exit) ≡ bufferAfter (running (now (ticket .entry)) (length (now (output .entry)))) (now (output .entry)) ⌝ }
+    ensures { λ r. ⌜ RunCall (now (ticket .entry)) (now (output .entry)) (now (output .exit)) r ⌝ }
 {
     let answer = running::run_ticket(ticket, output);
     match answer {

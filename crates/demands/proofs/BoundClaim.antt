@@ -5,6 +5,7 @@ use mathlib.Core.Path.{_≡_}
 use Prim.Native.Nat.{ℕ}
 use Rattle.protocol.specs.Instance.{Instance}
 use Rattle.protocol.proofs.Bound.{speaker-bound}
+use Rattle.protocol.proofs.CountsReached.{counts-reached}
 use Rattle.formats.proofs.WellFormed.{accepted-well-formed}
 use Rattle.demands.specs.Said.{Counts, countsSaid, countsOf}
 use Rattle.demands.specs.Written.{Wrote}
@@ -21,4 +22,9 @@ counts-bounded text x out counts wrote said =
     rw same (record { speakers = bound .speakers; messages = bound .messages })
 
 pub bound-claim : BoundClaim
-bound-claim = record { rounds = λ text x read. speaker-bound x (accepted-well-formed text x read); said = counts-bounded }
+bound-claim =
+    record {
+      rounds = λ text x read. speaker-bound x (accepted-well-formed text x read);
+      reached = λ text x read. counts-reached x (accepted-well-formed text x read);
+      said = counts-bounded;
+    }

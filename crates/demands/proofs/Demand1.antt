@@ -1,9 +1,24 @@
 -- Demand 1, of tickets and of the process part. Assumes nothing.
-use mathlib.Core.List.{List}
-use mathlib.Core.Path.{_≡_, sym, _∙_}
+use mathlib.Core.List.{List, [], _∷_, _++_, append-nil}
+use mathlib.Core.Option.{some}
+use mathlib.Core.Path.{_≡_, refl, sym, ap, _∙_}
 use Prim.Native.Nat.{ℕ, _≤_, _<_}
 use native.Mathlib.Omega.{arith}
+use lib.ListN.{getD}
+use Rattle.general.specs.BigEndian.{bytesOf}
+use Rattle.general.proofs.Bytes.{Bytes, bytes-each, bytes-append}
+use Rattle.general.proofs.BigEndian.{bytes-of-number, number-bytes}
 use Rattle.protocol.specs.Instance.{Instance}
+use Rattle.formats.specs.FirstWrong.{FirstWrong}
+use Rattle.formats.specs.Ticket.{readTicket}
+use Rattle.formats.specs.Line.{Line, noLine, linesOf}
+use Rattle.formats.specs.Says.{isKind}
+use Rattle.formats.specs.HexText.{hexLine}
+use Rattle.formats.specs.ResultLine.{refusalLine}
+use Rattle.formats.specs.Running.{resultIn, running, written, programWrites}
+use Rattle.formats.proofs.LineReadBack.{line-read-back}
+use Rattle.formats.proofs.RefusalRange.{RefusedBy, lastRefused, ticket-refused}
+use Rattle.demands.specs.Said.{lineAt, refusalFrom, refusalSaid}
 use Rattle.formats.specs.Reading.{Reading, refused}
 use Rattle.formats.specs.Code.{refusalsFrom, SettlesAs}
 use Rattle.formats.proofs.Passing.{refused-accepted}
@@ -30,11 +45,35 @@ same-refusal number line number′ line′ e =
     let place : line ≡ line′ = cc in
     (same, place)
 
+-- What the program writes for a refused text, and what it says.
+program-refuses : (text : List ℕ) (number line : ℕ) → FirstWrong text number line → programWrites text ≡ refusalLine number line
+unfolding programWrites written running resultIn
+program-refuses text number line w = rw (wrong-refused text number line w) refl
+
+refusal-read-back : (number line : ℕ) → number < 256 → line < 65536 → refusalSaid (refusalLine number line) ≡ some (record { refusal = number; line = line })
+unfolding refusalSaid refusalFrom lineAt refusalLine isKind bytesOf
+refusal-read-back number line small short =
+    let front : Bytes (0x1F ∷ number ∷ []) = bytes-each (0x1F ∷ number ∷ []) (omega arith, (small, tt)) in
+    let each = bytes-append (0x1F ∷ number ∷ []) (bytesOf 2 line) front (bytes-of-number 2 line) in
+    let read = line-read-back 0x1F (number ∷ bytesOf 2 line) [] each in
+    let whole : hexLine (0x1F ∷ number ∷ bytesOf 2 line) ++ [] ≡ hexLine (0x1F ∷ number ∷ bytesOf 2 line) = append-nil _ in
+    ap (λ (l : List ℕ). refusalFrom (getD (linesOf l) 0 noLine)) (sym whole)
+    ∙ ap (λ (lines : List Line). refusalFrom (getD lines 0 noLine)) read
+    ∙ ap (λ (k : ℕ). some (record { refusal = number; line = k })) (number-bytes 2 line short)
+
+program-says : (text : List ℕ) (number line : ℕ) → FirstWrong text number line → refusalSaid (programWrites text) ≡ some (record { refusal = number; line = line })
+unfolding RefusedBy
+program-says text number line w =
+    let range : RefusedBy lastRefused (readTicket text) = ticket-refused text in
+    let known : RefusedBy lastRefused (refused number line) = rw (wrong-refused text number line w) at range in
+    rw (program-refuses text number line w) (refusal-read-back number line (omega (arith, known .1)) (omega (arith, known .2)))
+
 tickets-answered : TicketsAnswered
 tickets-answered =
     record {
       run = run-answered;
       settle = settle-answered;
+      program = λ text number line w. (program-refuses text number line w, program-says text number line w);
       onlyOne = λ text number line number′ line′ w w′. same-refusal number line number′ line′ (sym (wrong-refused text number line w) ∙ wrong-refused text number′ line′ w′);
       notBoth = λ text x number line read w. refused-accepted number line x (sym (wrong-refused text number line w) ∙ read);
     }

@@ -14,7 +14,7 @@ use Rattle.protocol.proofs.SameEnds.{SameEnds, consensus-same, no-later-same, e
 use Rattle.formats.proofs.WellFormed.{accepted-well-formed}
 use Rattle.demands.specs.Said.{Counts, Says, countsOf}
 use Rattle.demands.specs.Written.{Wrote}
-use Rattle.demands.specs.Demand3.{RoundsClaim, OutputClaim, Demand3}
+use Rattle.demands.specs.Demand3.{RoundsClaim, InstancesClaim, OutputClaim, Demand3}
 use Rattle.demands.proofs.PairedTexts.{texts-paired}
 use Rattle.demands.proofs.Demand2.{demand-2}
 
@@ -65,5 +65,9 @@ output-claim =
           (rounds-claim .noLater a b x y (wrote .read) (wrote′ .read) paired);
     }
 
+instances-claim : InstancesClaim
+unfolding InstancesClaim
+instances-claim a b x y read read′ paired = no-later x y (accepted-well-formed a x read) (accepted-well-formed b y read′) paired
+
 pub demand-3 : Demand3
-demand-3 = record { rounds = rounds-claim; outputs = output-claim }
+demand-3 = record { rounds = rounds-claim; instances = instances-claim; outputs = output-claim }

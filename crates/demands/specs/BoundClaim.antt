@@ -5,6 +5,7 @@ use mathlib.Core.Path.{_≡_}
 use Prim.Native.Nat.{ℕ, suc, _+_, _≤_}
 use Rattle.protocol.specs.Instance.{Instance}
 use Rattle.protocol.specs.SpeakerBound.{SpeakerBound, boundBySpeakers}
+use Rattle.protocol.specs.CountsReached.{CountsReached}
 use Rattle.formats.specs.Reading.{accepted}
 use Rattle.formats.specs.Ticket.{readTicket}
 use Rattle.demands.specs.Said.{Counts, countsSaid}
@@ -17,5 +18,7 @@ pub record CountsBounded (n : ℕ) (counts : Counts) : Type 0 where
 
 pub record BoundClaim : Type 0 where
   pub rounds : (text : List ℕ) (x : Instance) → readTicket text ≡ accepted x → SpeakerBound x
+  -- the messages are as many as the processes that they reach
+  pub reached : (text : List ℕ) (x : Instance) → readTicket text ≡ accepted x → CountsReached x
   pub said : (text : List ℕ) (x : Instance) (out : List ℕ) (counts : Counts) → Wrote text x out → countsSaid out (x .processes) ≡ some counts
       → CountsBounded (x .processes) counts

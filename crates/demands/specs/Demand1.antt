@@ -3,6 +3,7 @@
 use mathlib.Core.List.{List, _++_}
 use mathlib.Core.Path.{_≡_}
 use mathlib.Core.Bool.{true}
+use mathlib.Core.Option.{some}
 use Prim.Native.Nat.{ℕ, _≤_, _<_}
 use lib.ListN.{length, drop}
 use Rattle.protocol.specs.Instance.{Instance}
@@ -10,7 +11,9 @@ use Rattle.protocol.specs.Settling.{qualifies}
 use Rattle.formats.specs.Reading.{accepted}
 use Rattle.formats.specs.Ticket.{readTicket}
 use Rattle.formats.specs.FirstWrong.{FirstWrong}
-use Rattle.formats.specs.ResultLine.{resultText, resultSize}
+use Rattle.formats.specs.ResultLine.{resultText, resultSize, refusalLine}
+use Rattle.formats.specs.Running.{programWrites}
+use Rattle.demands.specs.Said.{refusalSaid}
 use Rattle.part_format.specs.Refused.{RefusedCallsChangeNothing, SpeakAnswersApart}
 use Rattle.formats.specs.Code.{refusalsFrom, refusalCode, RunCall, SettlesAs}
 
@@ -36,6 +39,9 @@ pub data SettleAnswered (text : List ℕ) (code : ℕ) : Type 0 where
 pub record TicketsAnswered : Type 0 where
   pub run : (text before after : List ℕ) (code : ℕ) → RunCall text before after code → RunAnswered text before after code
   pub settle : (text : List ℕ) (code : ℕ) → SettlesAs text code → SettleAnswered text code
+  -- the program writes the refusal's line, which says its number and its line
+  pub program : (text : List ℕ) (number line : ℕ) → FirstWrong text number line
+      → (programWrites text ≡ refusalLine number line) × (refusalSaid (programWrites text) ≡ some (record { refusal = number; line = line }))
   pub onlyOne : (text : List ℕ) (number line number′ line′ : ℕ) → FirstWrong text number line → FirstWrong text number′ line′ → (number ≡ number′) × (line ≡ line′)
   pub notBoth : (text : List ℕ) (x : Instance) (number line : ℕ) → readTicket text ≡ accepted x → FirstWrong text number line → ⊥
 

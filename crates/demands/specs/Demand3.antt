@@ -7,7 +7,7 @@ use Rattle.protocol.specs.Instance.{Instance}
 use Rattle.protocol.specs.Round.{State}
 use Rattle.protocol.specs.Run.{crashesOf}
 use Rattle.protocol.specs.CrashCount.{crashedCount}
-use Rattle.protocol.specs.Consensus.{UniformConsensus, CountsCrashes, NoLater, endsOf, endOf, latestOf}
+use Rattle.protocol.specs.Consensus.{UniformConsensus, CountsCrashes, Paired, NoLater, endsOf, endOf, latestOf}
 use Rattle.formats.specs.Reading.{accepted}
 use Rattle.formats.specs.Ticket.{readTicket}
 use Rattle.demands.specs.Said.{Counts, Says}
@@ -22,6 +22,10 @@ pub record RoundsClaim : Type 0 where
   pub crashed : (text : List ℕ) (x : Instance) → readTicket text ≡ accepted x → crashesOf x ≡ crashedCount (endsOf x (endOf x))
   pub noLater : (a b : List ℕ) (x y : Instance) → readTicket a ≡ accepted x → readTicket b ≡ accepted y → PairedTexts a b → NoLater x (endOf x) y (endOf y)
 
+-- Of every two accepted texts whose instances are paired, however their lines stand.
+unfoldable pub InstancesClaim : Type 0
+InstancesClaim = (a b : List ℕ) (x y : Instance) → readTicket a ≡ accepted x → readTicket b ≡ accepted y → Paired x y → NoLater x (endOf x) y (endOf y)
+
 -- Of the ends and the f that the bytes of a result say, wherever running writes one; and of every two results whose texts are paired.
 pub record OutputClaim : Type 0 where
   pub consensus : (text : List ℕ) (x : Instance) (out : List ℕ) (ends : ℕ → State) (counts : Counts) → Wrote text x out → Says x out ends counts
@@ -31,7 +35,8 @@ pub record OutputClaim : Type 0 where
   pub noLater : (a b : List ℕ) (x y : Instance) (out out′ : List ℕ) (ends ends′ : ℕ → State) (counts counts′ : Counts)
       → Wrote a x out → Wrote b y out′ → Says x out ends counts → Says y out′ ends′ counts′ → PairedTexts a b → NoLater x ends y ends′
 
--- Demand 3: both claims.
+-- Demand 3: these claims.
 pub record Demand3 : Type 0 where
   pub rounds : RoundsClaim
+  pub instances : InstancesClaim
   pub outputs : OutputClaim

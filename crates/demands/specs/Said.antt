@@ -74,6 +74,18 @@ endSaid out p = endFrom p (lineAt out (p - 1))
 unfoldable pub countsSaid : List ℕ → ℕ → Option Counts
 countsSaid out n = countsFrom (lineAt out n)
 
+-- What the first line says if it is a refusal's: 1F, number, line (2 bytes).
+pub record Refusal : Type 0 where
+  pub refusal : ℕ
+  pub line : ℕ
+
+unfoldable pub refusalFrom : Line → Option Refusal
+refusalFrom (bytes b) = cond (isKind 0x1F 4 b) (some (record { refusal = getD b 1 0; line = number (drop 2 b) })) none
+refusalFrom noLine = none
+
+unfoldable pub refusalSaid : List ℕ → Option Refusal
+refusalSaid out = refusalFrom (lineAt out 0)
+
 -- The bytes say that the processes of the instance end so, and that this was counted.
 pub record Says (x : Instance) (out : List ℕ) (ends : ℕ → State) (counts : Counts) : Type 0 where
   pub states : (p : ℕ) → IsProcess x p → endSaid out p ≡ some (ends p)

@@ -32,7 +32,7 @@ pub record PairMet (a b : List ℕ) (r s : ℕ) : Type 0 where
   pub decides : Decides first (endOf first) 2 r 10
   pub decidesSecond : Decides second (endOf second) 2 s 10
 
--- Running a text answers that it wrote so many bytes, in Rattle and in C, on a buffer of 100 bytes.
+-- Running a text answers that it wrote so many bytes, in Rattle and in C.
 pub record RunMet (text : List ℕ) (size : ℕ) : Type 0 where
   pub before : List ℕ
   pub after : List ℕ

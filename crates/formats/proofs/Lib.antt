@@ -7,6 +7,8 @@ pub mod Keeping
 pub mod WellFormed
 pub mod RefusalRange
 pub mod ReadingCases
+pub mod AnswerCases
+pub mod Described
 pub mod Marked
 pub mod Worked
 pub mod Digit

@@ -13,6 +13,8 @@ pub mod Settle
 pub mod Table
 pub mod FurtherRuns
 pub mod ReadingCases
+pub mod AnswerCases
+pub mod Described
 pub mod Marked
 pub mod Worked
 pub mod Code

@@ -6,7 +6,6 @@ use Prim.Native.Nat.{ℕ}
 use Prim.Native.String.{String}
 use lib.ListN.{length, replicate}
 use Rattle.general.specs.Text.{ascii}
-use Rattle.protocol.specs.Instance.{Instance, Fault, correct, crashes, beforeSending, duringData, duringCommits}
 use Rattle.formats.specs.Reading.{Reading, accepted, refused}
 use Rattle.formats.specs.Ticket.{readTicket}
 use Rattle.formats.specs.Running.{running}
@@ -48,6 +47,8 @@ notLines =
     ∷ (ascii "010402", refusedWith 2 1)
     ∷ (textOf opening ++ ascii "04", refusedWith 2 6)
     ∷ (afterOpening ("04" ∷ "" ∷ []), refusedWith 2 7)
+    ∷ (textOf ("01040a" ∷ []), refusedWith 2 1)
+    ∷ (textOf ("01 0402" ∷ []), refusedWith 2 1)
     ∷ []
 
 -- Refusal 3: a kind not allowed here, a length that is not its kind's, a text over before its 04, at the line one past the last; after the 04 every kind.
@@ -71,6 +72,9 @@ wrongKinds =
     ∷ (afterOpening ("0301010000000000000000000000" ∷ []), refusedWith 3 6)
     ∷ (afterOpening ("02010000000A00000000000000" ∷ []), refusedWith 3 6)
     ∷ (afterOpening ("04" ∷ "04" ∷ []), refusedWith 3 7)
+    ∷ (textOf ("0104020000000000000000000000000000" ∷ []), refusedWith 3 1)
+    ∷ (textOf ("010402" ∷ "03010100000000000000000000" ∷ []), refusedWith 3 2)
+    ∷ (textOf ("010402" ∷ "010402" ∷ []), refusedWith 3 2)
     ∷ []
 
 -- Refusal 4: n from 1 to 64, t below n. (n = 64 passes in case 10.)
@@ -103,6 +107,7 @@ tooMany =
     ∷ (afterOpening ("03010100000000000000000000" ∷ "03020100000000000000000000" ∷ "03030100000000000000000000" ∷ []), refusedWith 6 8)
     ∷ (afterOpening ("03010100000000000000000000" ∷ "03020100000000000000000000" ∷ "03000100000000000000000000" ∷ []), refusedWith 6 8)
     ∷ (afterOpening ("03010100000000000000000000" ∷ "03020100000000000000000000" ∷ "0303" ∷ []), refusedWith 3 8)
+    ∷ (afterOpening ("03010100000000000000000000" ∷ "03020100000000000000000000" ∷ "03030302000000000000000009" ∷ []), refusedWith 6 8)
     ∷ []
 
 -- Refusal 7: station from 1 to n and rising, round from 1 to t + 1, step at most 02.
@@ -118,6 +123,7 @@ places =
     ∷ (afterOpening ("03040400000000000000000000" ∷ []), refusedWith 7 6)
     ∷ (afterOpening ("03010103000000000000000000" ∷ []), refusedWith 7 6)
     ∷ (afterOpening ("03030402000000000000000000" ∷ []), refusedWith 7 6)
+    ∷ (afterOpening ("03020103000000000000000000" ∷ []), refusedWith 7 6)
     ∷ []
 
 -- Refusal 8: steps 01 and 02 in the station's own round; at step 00 neither set nor count, at step 01 a set of stations above the sender and at most n and no count, at step 02 a count up to n − station and no set.
@@ -152,9 +158,9 @@ firstRules =
 unfoldable pub readingRows : List Row
 readingRows = tooLong ++ notLines ++ wrongKinds ++ limits ++ stations ++ tooMany ++ places ++ steps ++ firstRules
 
--- The claim: reading answers as each row says, and there are 76 of them.
+-- The claim: reading answers as each row says, and there are 83 of them.
 pub record ReadingCases : Type 0 where
-  pub rows : length readingRows ≡ 76
+  pub rows : length readingRows ≡ 83
   pub answered : map (λ (row : Row). verdictOf (readTicket (row .0))) readingRows ≡ map (λ (row : Row). row .1) readingRows
 
 -- A text, the room for its result, and what running answers. Refusal 9, of no line, is looked at after all lines: 17(n + 1) bytes are enough and one less is not.
@@ -175,25 +181,3 @@ roomRows =
 pub record RoomCases : Type 0 where
   pub rows : length roomRows ≡ 5
   pub answered : map (λ (row : RoomRow). verdictOf (running (row .text) (row .room))) roomRows ≡ map (λ (row : RoomRow). row .verdict) roomRows
-
--- A ticket with a failure line of each step, every digit, and what it describes: values of four bytes, most significant first; in a set bit j − 1 stands for station j.
-unfoldable pub describingTicket : List String
-describingTicket =
-    "010504" ∷ "020101234567" ∷ "020289ABCDEF" ∷ "020300000000" ∷ "0204FFFFFFFF" ∷ "020500000100"
-    ∷ "03010101000000000000001A00" ∷ "03030302000000000000000001" ∷ "03050500000000000000000000" ∷ "04" ∷ []
-
-unfoldable pub describedFaults : List Fault
-describedFaults =
-    crashes 1 (duringData 26) ∷ correct ∷ crashes 3 (duringCommits 1) ∷ correct ∷ crashes 5 beforeSending ∷ []
-
-unfoldable pub described : Instance
-described =
-    record {
-      processes = 5;
-      resilience = 4;
-      proposals = 19088743 ∷ 2309737967 ∷ 0 ∷ 4294967295 ∷ 256 ∷ [];
-      pattern = describedFaults;
-    }
-
-unfoldable pub TicketDescribes : Type 0
-TicketDescribes = readTicket (textOf describingTicket) ≡ accepted described

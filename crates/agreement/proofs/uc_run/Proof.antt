@@ -22,7 +22,7 @@ same-length c = search needs
 returns : tie.Need-returns
 returns c =
     let ran = c .before .before .before .before .before .run-ticket .ensures in
-    (written-code _ _ _ (ran .answered) (c .before .answer .given .1), ran .buffer)
+    record { answered = written-code _ _ _ (ran .answered) (c .before .answer .given .1); buffer = ran .buffer }
 
 same-length-2 : tie.Need-same-length-2
 same-length-2 c = search needs
@@ -31,7 +31,7 @@ returns-2 : tie.Need-returns-2
 returns-2 c =
     let told = c .before .before in
     let ran = told .before .before .before .before .run-ticket .ensures in
-    (refused-code _ _ _ _ _ (ran .answered) (told .answer2 .given .1) (c .refusal-code .ensures), ran .buffer)
+    record { answered = refused-code _ _ _ _ _ (ran .answered) (told .answer2 .given .1) (c .refusal-code .ensures); buffer = ran .buffer }
 
 pub uc-run-spec : {M : Type 1} → statement M
 uc-run-spec =

@@ -1,0 +1,40 @@
+-- What is told of a refused text: the line that the program writes for it (document 01, 'The result': "A refusal is the one line 1F, number, line"), and the number that a
+-- C caller is answered (docs/DECISIONS.md, S5).
+use mathlib.Core.List.{List, [], _∷_, _++_, map}
+use mathlib.Core.Path.{_≡_}
+use Prim.Native.Nat.{ℕ}
+use Prim.Native.String.{String}
+use lib.ListN.{length, replicate}
+use Rattle.general.specs.Text.{ascii}
+use Rattle.formats.specs.Running.{running, programWrites}
+use Rattle.formats.specs.Code.{runCode}
+use Rattle.formats.specs.Table.{textOf, case1, case10Passes, case12}
+use Rattle.formats.specs.ReadingCases.{afterOpening}
+
+-- A refused text, and the line that the program writes for it: 1F, number, line (2 bytes); 0 goes with refusal 1.
+pub record RefusalRow : Type 0 where
+  pub text : List ℕ
+  pub line : String
+
+unfoldable pub refusalRows : List RefusalRow
+refusalRows =
+    record { text = replicate 4097 120; line = "1F010000" }
+    ∷ record { text = replicate 4096 120; line = "1F020001" }
+    ∷ record { text = textOf ("010402" ∷ []); line = "1F030002" }
+    ∷ record { text = textOf ("014100" ∷ []); line = "1F040001" }
+    ∷ record { text = textOf ("010402" ∷ "02010000000A" ∷ "02010000000A" ∷ []); line = "1F050003" }
+    ∷ record { text = afterOpening ("03010100000000000000000000" ∷ "03020100000000000000000000" ∷ "03030100000000000000000000" ∷ []); line = "1F060008" }
+    ∷ record { text = afterOpening ("03000100000000000000000000" ∷ []); line = "1F070006" }
+    ∷ record { text = afterOpening ("03010100000000000000000001" ∷ []); line = "1F080006" }
+    ∷ record { text = textOf (case10Passes .ticket) ++ ascii "04"; line = "1F020043" }
+    ∷ []
+
+pub record RefusalCases : Type 0 where
+  pub rows : length refusalRows ≡ 9
+  pub written : map (λ (row : RefusalRow). programWrites (row .text)) refusalRows ≡ map (λ (row : RefusalRow). textOf (row .line ∷ [])) refusalRows
+
+-- What a C caller is answered: case 12's refusal 8 at line 6, refusal 9 of no line, the size of case 1's result.
+unfoldable pub CodeCases : Type 0
+CodeCases =
+    runCode (running (textOf (case12 .ticket)) 0) ∷ runCode (running (textOf (case1 .ticket)) 84) ∷ runCode (running (textOf (case1 .ticket)) 85) ∷ []
+    ≡ 524294 ∷ 589824 ∷ 85 ∷ []
