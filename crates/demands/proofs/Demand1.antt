@@ -65,7 +65,7 @@ program-says : (text : List ℕ) (number line : ℕ) → FirstWrong text number 
 unfolding RefusedBy
 program-says text number line w =
     let range : RefusedBy lastRefused (readTicket text) = ticket-refused text in
-    let known : RefusedBy lastRefused (refused number line) = rw (wrong-refused text number line w) at range in
+    let known : RefusedBy {A = Instance} lastRefused (refused number line) = rw (wrong-refused text number line w) at range in
     rw (program-refuses text number line w) (refusal-read-back number line (omega (arith, known .1)) (omega (arith, known .2)))
 
 tickets-answered : TicketsAnswered

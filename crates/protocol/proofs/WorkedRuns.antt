@@ -3,7 +3,7 @@
 use mathlib.Core.Path.{refl}
 use lib.Count.{onesIn}
 use Rattle.general.specs.Bits.{member, ones64}
-use Rattle.general.specs.Indexed.{mapFrom}
+use Rattle.general.specs.Indexed.{mapFrom, countFrom}
 use Rattle.protocol.specs.Message.{arriving}
 use Rattle.protocol.specs.Instance.{faultOf}
 use Rattle.protocol.specs.Transition.{sends, receives}
@@ -20,5 +20,5 @@ use Rattle.protocol.specs.WorkedTable.{crashesLater, silentAtLast, noCom
 use Rattle.protocol.specs.WorkedRuns.{qualifyingTo, worked, AsWorked, WorkedRuns}
 
 pub worked-runs : WorkedRuns
-unfolding workedRuns AsWorked worked qualifyingTo four case1 case2 case3 case4 case5 case6 case7 case8 case9 crashesLater silentAtLast noCommit twoReached onesIn member ones64 mapFrom arriving faultOf sends receives amongFirst reachAt reachIn reach stateOf crashesIn sentBy received afterOutcome after statesAfter isUndecided anyUndecided dataAt commitsAt countIn speaks dataIn commitsIn isIdle countsAsCrash crashCount initial withRound runTo runOf crashesOf valuesHeld allAre oneValue qualifies latestOf
+unfolding countFrom workedRuns AsWorked worked qualifyingTo four case1 case2 case3 case4 case5 case6 case7 case8 case9 crashesLater silentAtLast noCommit twoReached onesIn member ones64 mapFrom arriving faultOf sends receives amongFirst reachAt reachIn reach stateOf crashesIn sentBy received afterOutcome after statesAfter isUndecided anyUndecided dataAt commitsAt countIn speaks dataIn commitsIn isIdle countsAsCrash crashCount initial withRound runTo runOf crashesOf valuesHeld allAre oneValue qualifies latestOf
 worked-runs = record { number = refl; asWorked = (refl, (refl, (refl, (refl, (refl, (refl, (refl, (refl, (refl, (refl, (refl, (refl, (refl, tt))))))))))))) }
