@@ -1,4 +1,5 @@
--- Demand 3 (document 01, 'A round', last paragraph): "The claim holds of the rounds, and of the station lines and the f of the last line wherever running writes a result."
+-- Demand 3 (document 01, 'A round', last paragraph): "The claim holds of the rounds, and of the station lines and the f of the last line wherever running
+-- writes a result."
 -- Accepted means that refusals 1 to 8 let the text pass; the room for a result, refusal 9, plays no part in the rounds' claim.
 use mathlib.Core.List.{List}
 use mathlib.Core.Path.{_≡_}

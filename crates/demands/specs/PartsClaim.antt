@@ -1,4 +1,5 @@
--- Demand 2, second half, and demand 3 of separate process parts, closed over texts (document 00, demands 2 and 3; document 01, 'A round', last paragraph, and 'The desk part').
+-- Demand 2, second half, and demand 3 of separate process parts, closed over texts (document 00, demands 2 and 3; document 01, 'A round', last paragraph,
+-- and 'The desk part').
 use mathlib.Core.List.{List}
 use mathlib.Core.Path.{_≡_}
 use Prim.Native.Nat.{ℕ}

@@ -9,7 +9,8 @@ use Rattle.formats.specs.Reading.{Reading, accepted, refused}
 use Rattle.formats.specs.Ticket.{readTicket}
 use Rattle.formats.specs.Table.{textOf, opening64}
 
--- A ticket with a failure line of each step, every digit, and what it describes: values of four bytes, most significant first; in a set bit j − 1 stands for station j.
+-- A ticket with a failure line of each step, every digit, and what it describes: values of four bytes, most significant first; in a set bit j − 1 stands
+-- for station j.
 unfoldable pub describingTicket : List String
 describingTicket =
     "010504" ∷ "020101234567" ∷ "020289ABCDEF" ∷ "020300000000" ∷ "0204FFFFFFFF" ∷ "020500000100"

@@ -1,4 +1,5 @@
--- What a failure line may say (document 01, 'The ticket' and 'Refused calls', refusals 7 and 8). `FailureLine` is the code's struct: process, round, step, reached and count.
+-- What a failure line may say (document 01, 'The ticket' and 'Refused calls', refusals 7 and 8). `FailureLine` is the code's struct: process, round,
+-- step, reached and count.
 use mathlib.Core.Bool.{Bool, cond, _&&_}
 use Prim.Native.Nat.{ℕ, suc, _-_, _%_, _^_}
 use lib.Dec.{eqb, ltb, leb}

@@ -1,4 +1,5 @@
--- Texts at the limits of what a ticket may be, and what reading answers on each (document 01, 'Refused calls', "Running a ticket"): each refusal with its line,
+-- Texts at the limits of what a ticket may be, and what reading answers on each (document 01, 'Refused calls', "Running a ticket"): each refusal with its
+-- line,
 -- each limit from both sides, and which refusal is looked at first.
 use mathlib.Core.List.{List, [], _∷_, _++_, map}
 use mathlib.Core.Path.{_≡_}
@@ -126,7 +127,8 @@ places =
     ∷ (afterOpening ("03020103000000000000000000" ∷ []), refusedWith 7 6)
     ∷ []
 
--- Refusal 8: steps 01 and 02 in the station's own round; at step 00 neither set nor count, at step 01 a set of stations above the sender and at most n and no count, at step 02 a count up to n − station and no set.
+-- Refusal 8: steps 01 and 02 in the station's own round; at step 00 neither set nor count, at step 01 a set of stations above the sender and at most n
+-- and no count, at step 02 a count up to n − station and no set.
 unfoldable pub steps : List Row
 steps =
     (afterOpening ("03010100000000000000000200" ∷ []), refusedWith 8 6)
@@ -163,7 +165,8 @@ pub record ReadingCases : Type 0 where
   pub rows : length readingRows ≡ 83
   pub answered : map (λ (row : Row). verdictOf (readTicket (row .0))) readingRows ≡ map (λ (row : Row). row .1) readingRows
 
--- A text, the room for its result, and what running answers. Refusal 9, of no line, is looked at after all lines: 17(n + 1) bytes are enough and one less is not.
+-- A text, the room for its result, and what running answers. Refusal 9, of no line, is looked at after all lines: 17(n + 1) bytes are enough and one less
+-- is not.
 pub record RoomRow : Type 0 where
   pub text : List ℕ
   pub room : ℕ

@@ -1,4 +1,5 @@
--- What document 01 says of a case besides its result: which rounds qualify as settling round ('The result', last paragraph), and the two bounds on messages ('A round', third paragraph).
+-- What document 01 says of a case besides its result: which rounds qualify as settling round ('The result', last paragraph), and the two bounds on
+-- messages ('A round', third paragraph).
 use mathlib.Core.List.{List, [], _∷_, map}
 use mathlib.Core.Path.{_≡_}
 use mathlib.Core.Bool.{cond}

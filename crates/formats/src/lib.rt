@@ -1,4 +1,5 @@
-// What document 01 says of texts: tickets, results and refusals, as definitions (specs/), with the cases that pin them. The laws in proofs/ are about these alone.
+// What document 01 says of texts: tickets, results and refusals, as definitions (specs/), with the cases that pin them. The laws in proofs/ are about
+// these alone.
 // The types are those that the definitions and the code share.
 
 // The bytes of a failure line behind its kind: station, round, step, set, in which bit j - 1 stands for process j, and count.

@@ -1,4 +1,5 @@
-// Lines of hexadecimal text (document 01, 'The result': "in hexadecimal, each closed by 0A"), of any length, each written to the front of a part of the output.
+// Lines of hexadecimal text (document 01, 'The result': "in hexadecimal, each closed by 0A"), of any length, each written to the front of a part of the
+// output.
 ghost use mathlib.Core.Path.{_≡_};
 ghost use mathlib.Core.List.{_++_};
 ghost use Prim.Native.Nat.{_+_, _/_, _%_, _≤_, _<_};

@@ -1,4 +1,5 @@
-// What one line of a ticket says where it stands (document 01, 'The ticket' and refusals 3 to 8). A line comes as its size and its last sixteen bytes as two words.
+// What one line of a ticket says where it stands (document 01, 'The ticket' and refusals 3 to 8). A line comes as its size and its last sixteen bytes as
+// two words.
 use formats::FailureLine;
 use formats::HeaderAnswer;
 use formats::LineAnswer;

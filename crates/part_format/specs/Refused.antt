@@ -1,4 +1,5 @@
--- Demand 1 of the process part: refused calls change nothing, and their numbers are those of document 01 (document 00, demand 1; document 01, 'Refused calls').
+-- Demand 1 of the process part: refused calls change nothing, and their numbers are those of document 01 (document 00, demand 1; document 01, 'Refused
+-- calls').
 use mathlib.Core.List.{List}
 use mathlib.Core.Logic.{_⊎_}
 use mathlib.Core.Path.{_≡_}

@@ -24,7 +24,8 @@ partState x p round mark v =
 abbrev pub partBytes : Instance → (p round mark v : ℕ) → List ℕ
 partBytes x p round mark v = stateBytes (partState x p round mark v)
 
--- The part of a process that crashes in round r: it keeps the nine bytes with which the round began, open and with the estimate that the process has then in the run.
+-- The part of a process that crashes in round r: it keeps the nine bytes with which the round began, open and with the estimate that the process has then
+-- in the run.
 pub record CrashedAlike (x : Instance) (p r : ℕ) (part : Part) : Type 0 where
   pub before : ℕ
   pub estimate : ℕ

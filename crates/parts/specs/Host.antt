@@ -1,4 +1,5 @@
--- A host that keeps the parts of all processes and calls each once to speak and once to close in every round (document 00, 'The callers'; document 01, 'The desk part').
+-- A host that keeps the parts of all processes and calls each once to speak and once to close in every round (document 00, 'The callers'; document 01,
+-- 'The desk part').
 use mathlib.Core.List.{List}
 use Prim.Native.Nat.{ℕ, zero, suc}
 use mathlib.Core.Bool.{cond, _&&_}
@@ -19,7 +20,8 @@ blank = replicate 9 0
 unfoldable pub startedParts : Instance → List Part
 startedParts x = mapFrom (λ p v. up (startBytes p (x .processes) (x .resilience) v blank)) 1 (x .proposals)
 
--- What becomes of a part in round r, given its process's fault and the frames that are let through to it: an open part that crashes in the round is not called
+-- What becomes of a part in round r, given its process's fault and the frames that are let through to it: an open part that crashes in the round is not
+-- called
 -- to close it; any other that is up is.
 unfoldable pub partAfter : ℕ → Fault → List ℕ → Part → Part
 partAfter r own frames (up b) = cond (isOpen b && crashesIn r own) (crashedIn r b) (up (closeState b frames))

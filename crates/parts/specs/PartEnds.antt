@@ -10,7 +10,8 @@ use Rattle.part_format.specs.PartState.{stateFrom, markDecided}
 use Rattle.parts.specs.Part.{Part, up, crashedIn}
 use Rattle.parts.specs.Host.{partsOf, endPartOf}
 
--- What a part says of its process: with mark 01, that it decided in the round and on the value of the bytes; with another mark, that it is undecided with that value.
+-- What a part says of its process: with mark 01, that it decided in the round and on the value of the bytes; with another mark, that it is undecided with
+-- that value.
 unfoldable pub stateByPart : Part → State
 stateByPart (up b) = cond (eqb (stateFrom b .mark) markDecided) (decided (stateFrom b .round) (stateFrom b .value)) (undecided (stateFrom b .value))
 stateByPart (crashedIn round b) = crashed round

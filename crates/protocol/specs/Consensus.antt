@@ -1,4 +1,5 @@
--- Uniform consensus, decided by a round, and no later than in another run (document 001, section 3.1 and Lemmas 1 to 3; demand 3; document 01, 'A round', last paragraph).
+-- Uniform consensus, decided by a round, and no later than in another run (document 001, section 3.1 and Lemmas 1 to 3; demand 3; document 01, 'A round',
+-- last paragraph).
 -- The claims are about how the processes of an instance end, by whatever protocol: `ends` gives the end of each process.
 use mathlib.Core.List.{List}
 use mathlib.Core.Path.{_≡_}
@@ -67,7 +68,8 @@ endsOf x ends = mapFrom (λ p fault. ends p) 1 (x .pattern)
 unfoldable pub CountsCrashes : ℕ → Instance → (ℕ → State) → Type 0
 CountsCrashes f x ends = f ≡ crashCount (x .pattern) (endsOf x ends)
 
--- Pairing by instance, a step on the way to the claim, which pairs texts (`PairedTexts`, demands/specs). The failure lines of one process in two instances: the same (or none in both), or of the commit step with as many commits or more in the second, or of the commit step and missing there.
+-- Pairing by instance, a step on the way to the claim, which pairs texts (`PairedTexts`, demands/specs). The failure lines of one process in two
+-- instances: the same (or none in both), or of the commit step with as many commits or more in the second, or of the commit step and missing there.
 pub data LinePaired : Fault → Fault → Type 0 where
   same : {fault : Fault} → LinePaired fault fault
   moreCommits : {round sent sent′ : ℕ} → sent ≤ sent′ → LinePaired (crashes round (duringCommits sent)) (crashes round (duringCommits sent′))

@@ -1,4 +1,5 @@
--- The messages and the speakers of a round, from the states as it began (document 01, 'A round', second paragraph for speakers, third for messages). Who hears what (Delivery, Round) does not look at it, nor does f (CrashCount).
+-- The messages and the speakers of a round, from the states as it began (document 01, 'A round', second paragraph for speakers, third for messages). Who
+-- hears what (Delivery, Round) does not look at it, nor does f (CrashCount).
 use mathlib.Core.List.{List}
 use Prim.Native.Nat.{ℕ, _-_}
 use mathlib.Core.Bool.{Bool, cond}

@@ -1,4 +1,5 @@
--- f, which bounds the rounds (document 01, 'A round', second paragraph: 'A failure line whose station decided in an earlier round is idle', 'f counts the lines that are not idle'; and the crashed processes, of which it is proved that f is their number).
+-- f, which bounds the rounds (document 01, 'A round', second paragraph: 'A failure line whose station decided in an earlier round is idle', 'f counts the
+-- lines that are not idle'; and the crashed processes, of which it is proved that f is their number).
 use mathlib.Core.List.{List, [], _∷_}
 use mathlib.Core.Bool.{Bool, false, cond}
 use Prim.Native.Nat.{ℕ, _+_}

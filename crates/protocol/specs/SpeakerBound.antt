@@ -1,4 +1,5 @@
--- The bound by speakers (document 01, 'A round', third paragraph): with k speakers and f crashes among n processes, k ≤ f + 1, and data and commits together are at most k(2n − k − 1) − k(k − 1)/2.
+-- The bound by speakers (document 01, 'A round', third paragraph): with k speakers and f crashes among n processes, k ≤ f + 1, and data and commits
+-- together are at most k(2n − k − 1) − k(k − 1)/2.
 use Prim.Native.Nat.{ℕ, suc, _+_, _-_, _*_, _/_, _≤_}
 use Rattle.protocol.specs.Instance.{Instance}
 use Rattle.protocol.specs.Run.{runOf, crashesOf}

@@ -15,7 +15,8 @@ pub data Outcome : Type 0 where
   continues : ℕ → Outcome
   decides : ℕ → Outcome
 
--- The coordinator decides its estimate (line 6); any other process adopts the estimate that it receives, and decides it if the commit comes too (lines 7 and 8).
+-- The coordinator decides its estimate (line 6); any other process adopts the estimate that it receives, and decides it if the commit comes too (lines 7
+-- and 8).
 unfoldable pub receives : Bool → ℕ → Messages → Outcome
 receives true v m = decides v
 receives false v nothing = continues v

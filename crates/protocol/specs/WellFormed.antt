@@ -1,4 +1,5 @@
--- What refusals 1 to 8 leave of an instance (document 01, 'The ticket'): the limits of n and t, a proposal and a fault for each process, at most t faults, each within its limits.
+-- What refusals 1 to 8 leave of an instance (document 01, 'The ticket'): the limits of n and t, a proposal and a fault for each process, at most t
+-- faults, each within its limits.
 use mathlib.Core.List.{List, [], _∷_}
 use mathlib.Core.Path.{_≡_}
 use Prim.Native.Nat.{ℕ, suc, _+_, _%_, _^_, _≤_, _<_}
