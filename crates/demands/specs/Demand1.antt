@@ -44,7 +44,8 @@ pub record TicketsAnswered : Type 0 where
   -- the program writes the refusal's line, which says its number and its line
   pub program : (text : List ℕ) (number line : ℕ) → FirstWrong text number line
       → (programWrites text ≡ refusalLine number line) × (refusalSaid (programWrites text) ≡ some (record { refusal = number; line = line }))
-  pub onlyOne : (text : List ℕ) (number line number′ line′ : ℕ) → FirstWrong text number line → FirstWrong text number′ line′ → (number ≡ number′) × (line ≡ line′)
+  pub onlyOne : (text : List ℕ) (number line number′ line′ : ℕ) → FirstWrong text number line → FirstWrong text number′ line′
+      → (number ≡ number′) × (line ≡ line′)
   pub notBoth : (text : List ℕ) (x : Instance) (number line : ℕ) → readTicket text ≡ accepted x → FirstWrong text number line → ⊥
 
 -- Demand 1: of tickets, and of the calls of the process part, where a refused one changes no byte.

@@ -20,6 +20,7 @@ pub record PartsClaim : Type 0 where
   pub noneRefused : (text : List ℕ) (x : Instance) → readTicket text ≡ accepted x → NoneRefused x
   -- demand 3, by their own bytes
   pub consensus : (text : List ℕ) (x : Instance) → readTicket text ≡ accepted x → UniformConsensus (latestByParts x) x (endByPart x)
-  pub noLater : (a b : List ℕ) (x y : Instance) → readTicket a ≡ accepted x → readTicket b ≡ accepted y → PairedTexts a b → NoLater x (endByPart x) y (endByPart y)
+  pub noLater : (a b : List ℕ) (x y : Instance) → readTicket a ≡ accepted x → readTicket b ≡ accepted y
+      → PairedTexts a b → NoLater x (endByPart x) y (endByPart y)
   -- what these definitions take a part to yield is what its host finds in its buffer, of 8 bytes or more
   pub outputYielded : OutputYielded

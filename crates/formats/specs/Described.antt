@@ -47,4 +47,5 @@ firstFault (refused refusal line) = correct
 pub record LargeSet : Type 0 where
   pub fault : firstFault (readTicket largeSetTicket) ≡ crashes 1 (duringData largeSet)
   pub members : membersTo 64 largeSet
-      ≡ 64 ∷ 63 ∷ 62 ∷ 61 ∷ 60 ∷ 59 ∷ 58 ∷ 56 ∷ 55 ∷ 53 ∷ 52 ∷ 51 ∷ 48 ∷ 46 ∷ 45 ∷ 44 ∷ 42 ∷ 40 ∷ 37 ∷ 36 ∷ 31 ∷ 30 ∷ 29 ∷ 27 ∷ 26 ∷ 23 ∷ 21 ∷ 19 ∷ 14 ∷ 13 ∷ 10 ∷ 5 ∷ []
+      ≡ 64 ∷ 63 ∷ 62 ∷ 61 ∷ 60 ∷ 59 ∷ 58 ∷ 56 ∷ 55 ∷ 53 ∷ 52 ∷ 51 ∷ 48 ∷ 46 ∷ 45 ∷ 44 ∷ 42 ∷ 40 ∷ 37 ∷ 36
+      ∷ 31 ∷ 30 ∷ 29 ∷ 27 ∷ 26 ∷ 23 ∷ 21 ∷ 19 ∷ 14 ∷ 13 ∷ 10 ∷ 5 ∷ []

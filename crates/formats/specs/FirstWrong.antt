@@ -14,7 +14,8 @@ use Rattle.formats.specs.Ticket.{ticketLimit}
 -- From stage s the first k of some lines are right and lead to stage u, with these lines left.
 pub data Passed : Stage → List Line → ℕ → Stage → List Line → Type 0 where
   none : {s : Stage} {lines : List Line} → Passed s lines zero s lines
-  oneMore : {s u v : Stage} {b : List ℕ} {lines rest : List Line} {k : ℕ} → accept s b ≡ next u → Passed u lines k v rest → Passed s (bytes b ∷ lines) (suc k) v rest
+  oneMore : {s u v : Stage} {b : List ℕ} {lines rest : List Line} {k : ℕ}
+      → accept s b ≡ next u → Passed u lines k v rest → Passed s (bytes b ∷ lines) (suc k) v rest
 
 -- The 04 has not been read.
 unfoldable pub NotEnded : Stage → Type 0
