@@ -39,7 +39,7 @@ pub fn case(number: u8) -> Ticket {
 }
 
 /// The runs worked out by hand: cases 1 to 9, and four that show what no case
-/// does. They are those of `../crates/protocol/specs/WorkedTable.antt`.
+/// does. They are those of `../crates/coordinator/specs/WorkedTable.antt`.
 pub fn runs() -> [(&'static str, Ticket); 13] {
     let silent = Failure::before_sending;
     let three = Ticket { n: 3, t: 2, proposals: vec![10, 20, 30], failures: vec![] };

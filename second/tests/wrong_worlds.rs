@@ -70,7 +70,7 @@ fn every_edit_of_the_protocol_has_a_world() {
     for entry in fs::read_dir(edits_of("protocol")).expect("the edits of the protocol") {
         let path = entry.expect("an entry").path();
         let name = path.file_stem().and_then(|stem| stem.to_str()).expect("a name");
-        assert!(names.contains(format!("protocol/{name}").as_str()), "{name}");
+        assert!(names.contains(format!("coordinator/{name}").as_str()), "{name}");
     }
 }
 
@@ -132,26 +132,26 @@ fn the_figures_of_the_worked_runs() {
 fn the_five_mistakes_in_worked_cases() {
     // "Station r + 1 then decides and stays silent in its round while higher
     // ones wait."
-    let upward = said("protocol/commits-go-upward", "case 1");
+    let upward = said("coordinator/commits-go-upward", "case 1");
     assert_eq!(upward.ends, [Crashed(1), Decided(1, 10), Decided(3, 10), Decided(3, 10)]);
 
     // "In case 5 station 4 would keep 10 and the rest 20."
-    let on_data = said("protocol/decides-on-data-alone", "case 5");
+    let on_data = said("coordinator/decides-on-data-alone", "case 5");
     assert_eq!(on_data.ends, [Crashed(1), Decided(2, 20), Decided(2, 20), Decided(1, 10)]);
 
     // "Leaving dark stations out of the commit list, which shifts who gets the
     // first commits": 7 and 6, in the place of 9 and 8.
-    let left_out = said("protocol/crashed-left-out-of-the-commit-list", "case 9");
+    let left_out = said("coordinator/crashed-left-out-of-the-commit-list", "case 9");
     let (first, rest) = left_out.ends.split_at(5);
     assert_eq!(first, [1, 2, 3, 4, 5].map(Crashed));
     assert_eq!(rest, [Decided(1, 10), Decided(1, 10), Crashed(1), Crashed(1), Decided(1, 10)]);
 
     // "Counting idle lines in f, which loosens the bound on rounds."
-    let idle = said("protocol/idle-lines-counted-in-f", "case 8");
+    let idle = said("consensus/idle-lines-counted-in-f", "case 8");
     assert_eq!((idle.f, idle.limits.0), (1, 2));
 
     // "Letting a station hear in the round it goes dark": 8 and 9 decide.
-    let hears = said("protocol/hears-in-the-round-of-its-crash", "case 9");
+    let hears = said("coordinator/hears-in-the-round-of-its-crash", "case 9");
     let (first, rest) = hears.ends.split_at(7);
     assert_eq!(first, [1, 2, 3, 4, 5, 6, 7].map(Crashed));
     assert_eq!(rest, [Decided(1, 10); 3]);
@@ -168,30 +168,30 @@ fn the_nearest_impostor_in_case_6() {
 
 #[test]
 fn counts_that_no_bound_refuses() {
-    assert_eq!(said("protocol/silent-rounds-not-counted", "silent at last").counts.rounds, 1);
-    assert_eq!(said("protocol/data-counted-as-the-commits", "case 9").counts.data, 21);
-    assert_eq!(said("protocol/unsent-data-counted", "case 6").counts.data, 4);
+    assert_eq!(said("coordinator/silent-rounds-not-counted", "silent at last").counts.rounds, 1);
+    assert_eq!(said("coordinator/data-counted-as-the-commits", "case 9").counts.data, 21);
+    assert_eq!(said("coordinator/unsent-data-counted", "case 6").counts.data, 4);
 }
 
 /// 01, case 9: "sum 63, the bound exactly; document 001 gives 55".
 #[test]
 fn other_limits_of_case_9() {
     assert_eq!(said("formats/bound-of-theorem-2", "case 9").limits, (10, 55));
-    assert_eq!(said("protocol/bound-too-low", "case 9").limits, (10, 62));
-    assert_eq!(said("protocol/bound-too-high", "case 9").limits, (10, 64));
-    assert_eq!(said("protocol/one-round-more-to-decide", "case 9").limits, (11, 63));
+    assert_eq!(said("coordinator/bound-too-low", "case 9").limits, (10, 62));
+    assert_eq!(said("coordinator/bound-too-high", "case 9").limits, (10, 64));
+    assert_eq!(said("coordinator/one-round-more-to-decide", "case 9").limits, (11, 63));
 }
 
 #[test]
 fn other_rounds_that_settle() {
     let figures: [(&str, &str, &[u8]); 8] = [
-        ("protocol/crashed-processes-hold-values", "case 1", &[]),
-        ("protocol/settled-as-the-round-begins", "case 5", &[]),
-        ("protocol/every-round-settles", "case 5", &[1, 2]),
-        ("protocol/settled-by-the-decided-alone", "case 5", &[1, 2]),
-        ("protocol/settled-by-who-never-crashes", "one crashes later", &[1, 2, 3]),
-        ("protocol/round-0-settles", "case 2", &[0, 1]),
-        ("protocol/settles-after-the-end", "case 1", &[1, 2, 3]),
+        ("coordinator/crashed-processes-hold-values", "case 1", &[]),
+        ("coordinator/settled-as-the-round-begins", "case 5", &[]),
+        ("coordinator/every-round-settles", "case 5", &[1, 2]),
+        ("coordinator/settled-by-the-decided-alone", "case 5", &[1, 2]),
+        ("coordinator/settled-by-who-never-crashes", "one crashes later", &[1, 2, 3]),
+        ("coordinator/round-0-settles", "case 2", &[0, 1]),
+        ("coordinator/settles-after-the-end", "case 1", &[1, 2, 3]),
         ("formats/only-the-last-round-settles", "case 1", &[2]),
     ];
     for (world, run, settling_rounds) in figures {

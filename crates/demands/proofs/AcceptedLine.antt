@@ -8,7 +8,7 @@ use borrow.Author.Tests.{eqb-true}
 use lib.Dec.{eqb}
 use lib.ListN.{length, getD}
 use Rattle.general.proofs.Tests.{both}
-use Rattle.protocol.specs.Instance.{crashes, duringCommits}
+use Rattle.consensus.specs.Instance.{crashes, duringCommits}
 use Rattle.formats.specs.FailureLine.{faultBy}
 use Rattle.formats.specs.Says.{isKind, failureLine}
 use Rattle.formats.proofs.CrashAllowed.{commit-fault}

@@ -3,9 +3,9 @@ use mathlib.Core.List.{List}
 use mathlib.Core.Option.{some}
 use mathlib.Core.Path.{_≡_}
 use Prim.Native.Nat.{ℕ}
-use Rattle.protocol.specs.Instance.{Instance}
-use Rattle.protocol.proofs.Bound.{speaker-bound}
-use Rattle.protocol.proofs.CountsReached.{counts-reached}
+use Rattle.consensus.specs.Instance.{Instance}
+use Rattle.coordinator.proofs.Bound.{speaker-bound}
+use Rattle.coordinator.proofs.CountsReached.{counts-reached}
 use Rattle.formats.proofs.WellFormed.{accepted-well-formed}
 use Rattle.demands.specs.Said.{Counts, countsSaid, countsOf}
 use Rattle.demands.specs.Written.{Wrote}

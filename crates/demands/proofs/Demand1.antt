@@ -8,7 +8,7 @@ use lib.ListN.{getD}
 use Rattle.general.specs.BigEndian.{bytesOf}
 use Rattle.general.proofs.Bytes.{Bytes, bytes-each, bytes-append}
 use Rattle.general.proofs.BigEndian.{bytes-of-number, number-bytes}
-use Rattle.protocol.specs.Instance.{Instance}
+use Rattle.consensus.specs.Instance.{Instance}
 use Rattle.formats.specs.FirstWrong.{FirstWrong}
 use Rattle.formats.specs.Ticket.{readTicket}
 use Rattle.formats.specs.Line.{Line, noLine, linesOf}

@@ -2,15 +2,16 @@
 use mathlib.Core.List.{List}
 use mathlib.Core.Path.{_≡_, refl, sym, ap, _∙_}
 use Prim.Native.Nat.{ℕ, suc}
-use Rattle.protocol.specs.Instance.{Instance}
-use Rattle.protocol.specs.Round.{State}
-use Rattle.protocol.specs.Run.{crashesOf}
-use Rattle.protocol.specs.Consensus.{UniformConsensus, CountsCrashes, endOf, latestOf}
-use Rattle.protocol.specs.CrashCount.{crashCount, crashedCount}
-use Rattle.protocol.proofs.CrashCount.{crashes-are-crashed}
-use Rattle.protocol.proofs.Consensus.{uniform-consensus}
-use Rattle.protocol.proofs.Pair.{no-later}
-use Rattle.protocol.proofs.SameEnds.{SameEnds, consensus-same, no-later-same, ends-in-order}
+use Rattle.consensus.specs.Instance.{Instance}
+use Rattle.consensus.specs.State.{State}
+use Rattle.coordinator.specs.Run.{crashesOf, endOf, latestOf}
+use Rattle.consensus.specs.Consensus.{UniformConsensus, CountsCrashes}
+use Rattle.consensus.specs.CrashCount.{crashCount, crashedCount}
+use Rattle.coordinator.proofs.CrashCount.{crashes-are-crashed}
+use Rattle.coordinator.proofs.Consensus.{uniform-consensus}
+use Rattle.coordinator.proofs.Pair.{no-later}
+use Rattle.consensus.proofs.SameEnds.{SameEnds, consensus-same, no-later-same}
+use Rattle.coordinator.proofs.Ends.{ends-in-order}
 use Rattle.formats.proofs.WellFormed.{accepted-well-formed}
 use Rattle.demands.specs.Said.{Counts, Says, countsOf}
 use Rattle.demands.specs.Written.{Wrote}

@@ -3,16 +3,16 @@ use mathlib.Core.List.{List, _++_}
 use mathlib.Core.Path.{_≡_, refl}
 use Prim.Native.Nat.{ℕ, suc, _-_, _^_, _≤_, _<_}
 use native.Mathlib.Omega.{arith}
-use Rattle.protocol.specs.Instance.{Instance, crashes, proposalOf}
-use Rattle.protocol.specs.Round.{State, undecided, decided, crashed, stateOf}
-use Rattle.protocol.specs.WellFormed.{WellFormed, FaultAllowed}
-use Rattle.protocol.specs.Run.{runOf, crashesOf}
-use Rattle.protocol.specs.Consensus.{IsProcess, Decides, Validity, DecidesBy, CrashesNoOther, UniformConsensus, endOf, latestOf}
-use Rattle.protocol.proofs.CrashCount.{crashes-le}
-use Rattle.protocol.proofs.Counts.{counts-fit}
-use Rattle.protocol.proofs.Ends.{states-at-end}
-use Rattle.protocol.proofs.Consensus.{uniform-consensus}
-use Rattle.protocol.proofs.Settled.{none-ends-undecided}
+use Rattle.consensus.specs.Instance.{Instance, crashes, proposalOf}
+use Rattle.consensus.specs.State.{State, undecided, decided, crashed, stateOf}
+use Rattle.coordinator.specs.WellFormed.{WellFormed, FaultAllowed}
+use Rattle.coordinator.specs.Run.{runOf, crashesOf, endOf, latestOf}
+use Rattle.consensus.specs.Consensus.{IsProcess, Decides, Validity, DecidesBy, CrashesNoOther, UniformConsensus}
+use Rattle.coordinator.proofs.CrashCount.{crashes-le}
+use Rattle.coordinator.proofs.Counts.{counts-fit}
+use Rattle.coordinator.proofs.Ends.{states-at-end}
+use Rattle.coordinator.proofs.Consensus.{uniform-consensus}
+use Rattle.coordinator.proofs.Settled.{none-ends-undecided}
 use Rattle.formats.specs.ResultLine.{resultText}
 use Rattle.demands.specs.Said.{Says, countsOf}
 use Rattle.demands.proofs.ResultReadBack.{Fits, RunFits, end-said, counts-said}

@@ -5,8 +5,8 @@ use native.Mathlib.Omega.{arith}
 use lib.ListN.{length, length-set}
 use lib.Seq.{getD-set-same, getD-set-other}
 use Rattle.general.proofs.Tests.{by-equal}
-use Rattle.protocol.specs.Instance.{Instance, correct, faultOf}
-use Rattle.protocol.specs.Consensus.{LinePaired, Paired}
+use Rattle.consensus.specs.Instance.{Instance, correct, faultOf}
+use Rattle.coordinator.specs.Pairing.{LinePaired, Paired}
 use Rattle.formats.specs.declared.FailureLine.{FailureLine}
 use Rattle.formats.specs.FailureLine.{faultBy}
 use Rattle.formats.specs.Accept.{withCrash}

@@ -9,10 +9,10 @@ use lib.Dec.{eqb, ltb}
 use lib.ListN.{length, getD, replicate, length-replicate}
 use Rattle.general.proofs.Tests.{both}
 use Rattle.general.proofs.Lists.{getD-repeated}
-use Rattle.protocol.specs.Instance.{Instance, correct, faultOf}
-use Rattle.protocol.specs.Consensus.{same, moreCommits, missing, Paired}
+use Rattle.consensus.specs.Instance.{Instance, correct, faultOf}
+use Rattle.coordinator.specs.Pairing.{same, moreCommits, missing, Paired}
 use Rattle.formats.specs.Line.{Line, bytes, noLine}
-use Rattle.formats.specs.Step.{next}
+use Rattle.formats.specs.LineVerdict.{next}
 use Rattle.formats.specs.Reading.{Reading, accepted, refused, readFrom}
 use Rattle.formats.specs.Says.{isKind, afterProposal, failureLine, lineSays}
 use Rattle.formats.specs.Accept.{Stage, header, body, unproposed, withProposal, store, accept}

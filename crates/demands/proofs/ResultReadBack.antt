@@ -12,8 +12,8 @@ use Rattle.general.specs.Indexed.{mapFrom}
 use Rattle.general.proofs.Bytes.{Bytes, bytes-append}
 use Rattle.general.proofs.BigEndian.{bytes-of-number, number-bytes}
 use Rattle.general.proofs.Indexed.{length-mapFrom, mapFrom-at}
-use Rattle.protocol.specs.Round.{State, undecided, decided, crashed, stateOf}
-use Rattle.protocol.specs.Run.{Run}
+use Rattle.consensus.specs.State.{State, undecided, decided, crashed, stateOf}
+use Rattle.coordinator.specs.Run.{Run}
 use Rattle.formats.specs.Line.{Line, bytes, noLine, linesOf}
 use Rattle.formats.specs.Says.{isKind}
 use Rattle.formats.specs.ResultLine.{endBytes, processLine, lastLine, joined, resultLines}

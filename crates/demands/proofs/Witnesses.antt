@@ -9,16 +9,16 @@ use Rattle.general.specs.Bits.{member, ones64}
 use Rattle.general.specs.BigEndian.{number, numberFrom, bytesOf}
 use Rattle.general.specs.Indexed.{mapFrom}
 use Rattle.general.specs.Text.{ascii}
-use Rattle.protocol.specs.Instance.{Instance, Fault, correct, crashes, duringCommits, pointFrom, faultOf, withinLimits}
-use Rattle.protocol.specs.Message.{arriving}
-use Rattle.protocol.specs.Transition.{sends, receives}
-use Rattle.protocol.specs.Delivery.{amongFirst, reachAt, reachIn, reach}
-use Rattle.protocol.specs.Round.{stateOf, crashesIn, sentBy, received, afterOutcome, after, statesAfter}
-use Rattle.protocol.specs.Undecided.{isUndecided, anyUndecided}
-use Rattle.protocol.specs.Count.{dataAt, commitsAt, countIn, speaks, dataIn, commitsIn}
-use Rattle.protocol.specs.CrashCount.{isIdle, countsAsCrash, crashCount}
-use Rattle.protocol.specs.Run.{initial, withRound, runTo, runOf, crashesOf}
-use Rattle.protocol.specs.Consensus.{endOf}
+use Rattle.consensus.specs.Instance.{Instance, Fault, correct, crashes, duringCommits, pointFrom, faultOf, withinLimits}
+use Rattle.coordinator.specs.Message.{arriving}
+use Rattle.coordinator.specs.Transition.{sends, receives}
+use Rattle.coordinator.specs.Delivery.{amongFirst, reachAt, reachIn, reach}
+use Rattle.consensus.specs.State.{stateOf, crashesIn}
+use Rattle.coordinator.specs.Round.{sentBy, received, afterOutcome, after, statesAfter}
+use Rattle.coordinator.specs.Undecided.{isUndecided, anyUndecided}
+use Rattle.coordinator.specs.Count.{dataAt, commitsAt, countIn, speaks, dataIn, commitsIn}
+use Rattle.consensus.specs.CrashCount.{isIdle, countsAsCrash, crashCount}
+use Rattle.coordinator.specs.Run.{initial, withRound, runTo, runOf, crashesOf, endOf}
 use Rattle.formats.specs.Digit.{digitValue, isDigit}
 use Rattle.formats.specs.Line.{scan, closed, unclosed, linesFrom, linesOf}
 use Rattle.formats.specs.FailureLine.{placesCrash, allBetween, suitsStep}

@@ -4,7 +4,7 @@ use mathlib.Core.Path.{_≡_, refl, sym, ap, _∙_}
 use Prim.Native.Nat.{ℕ, _≤_, _<_}
 use native.Mathlib.Omega.{arith}
 use lib.ListN.{length, drop}
-use Rattle.protocol.specs.Instance.{Instance}
+use Rattle.consensus.specs.Instance.{Instance}
 use Rattle.formats.specs.Reading.{Reading, accepted, refused}
 use Rattle.formats.specs.Ticket.{readTicket}
 use Rattle.formats.specs.ResultLine.{resultText, resultSize}

@@ -3,9 +3,9 @@ use mathlib.Core.List.{List}
 use mathlib.Core.Option.{some}
 use mathlib.Core.Path.{_≡_}
 use Prim.Native.Nat.{ℕ, suc, _+_, _≤_}
-use Rattle.protocol.specs.Instance.{Instance}
-use Rattle.protocol.specs.SpeakerBound.{SpeakerBound, boundBySpeakers}
-use Rattle.protocol.specs.CountsReached.{CountsReached}
+use Rattle.consensus.specs.Instance.{Instance}
+use Rattle.coordinator.specs.SpeakerBound.{SpeakerBound, boundBySpeakers}
+use Rattle.coordinator.specs.CountsReached.{CountsReached}
 use Rattle.formats.specs.Reading.{accepted}
 use Rattle.formats.specs.Ticket.{readTicket}
 use Rattle.demands.specs.Said.{Counts, countsSaid}

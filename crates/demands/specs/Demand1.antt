@@ -7,8 +7,8 @@ use mathlib.Core.Bool.{true}
 use mathlib.Core.Option.{some}
 use Prim.Native.Nat.{ℕ, _≤_, _<_}
 use lib.ListN.{length, drop}
-use Rattle.protocol.specs.Instance.{Instance}
-use Rattle.protocol.specs.Settling.{qualifies}
+use Rattle.consensus.specs.Instance.{Instance}
+use Rattle.coordinator.specs.Settling.{qualifies}
 use Rattle.formats.specs.Reading.{accepted}
 use Rattle.formats.specs.Ticket.{readTicket}
 use Rattle.formats.specs.FirstWrong.{FirstWrong}

@@ -3,8 +3,8 @@
 -- desk parts, fed the frames that the ticket lets through, decide alike."
 use mathlib.Core.List.{List}
 use Prim.Native.Nat.{ℕ}
-use Rattle.protocol.specs.Instance.{Instance}
-use Rattle.protocol.specs.Consensus.{endOf}
+use Rattle.consensus.specs.Instance.{Instance}
+use Rattle.coordinator.specs.Run.{endOf}
 use Rattle.demands.specs.Said.{Says, countsOf}
 use Rattle.demands.specs.Written.{Wrote, WritesResults}
 use Rattle.demands.specs.PartsClaim.{PartsClaim}

@@ -4,11 +4,12 @@
 use mathlib.Core.List.{List}
 use mathlib.Core.Path.{_≡_}
 use Prim.Native.Nat.{ℕ, suc}
-use Rattle.protocol.specs.Instance.{Instance}
-use Rattle.protocol.specs.Round.{State}
-use Rattle.protocol.specs.Run.{crashesOf}
-use Rattle.protocol.specs.CrashCount.{crashedCount}
-use Rattle.protocol.specs.Consensus.{UniformConsensus, CountsCrashes, Paired, NoLater, endsOf, endOf, latestOf}
+use Rattle.consensus.specs.Instance.{Instance}
+use Rattle.consensus.specs.State.{State}
+use Rattle.coordinator.specs.Run.{crashesOf, endOf, latestOf}
+use Rattle.consensus.specs.CrashCount.{crashedCount}
+use Rattle.consensus.specs.Consensus.{UniformConsensus, CountsCrashes, NoLater, endsOf}
+use Rattle.coordinator.specs.Pairing.{Paired}
 use Rattle.formats.specs.Reading.{accepted}
 use Rattle.formats.specs.Ticket.{readTicket}
 use Rattle.demands.specs.Said.{Counts, Says}

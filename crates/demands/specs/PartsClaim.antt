@@ -3,8 +3,8 @@
 use mathlib.Core.List.{List}
 use mathlib.Core.Path.{_≡_}
 use Prim.Native.Nat.{ℕ}
-use Rattle.protocol.specs.Instance.{Instance}
-use Rattle.protocol.specs.Consensus.{UniformConsensus, NoLater}
+use Rattle.consensus.specs.Instance.{Instance}
+use Rattle.consensus.specs.Consensus.{UniformConsensus, NoLater}
 use Rattle.formats.specs.Reading.{accepted}
 use Rattle.formats.specs.Ticket.{readTicket}
 use Rattle.parts.specs.DecideAlike.{DecideAlike, NoneRefused}

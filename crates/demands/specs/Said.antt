@@ -8,10 +8,10 @@ use mathlib.Core.Bool.{Bool, cond, _&&_}
 use lib.Dec.{eqb}
 use lib.ListN.{getD, take, drop}
 use Rattle.general.specs.BigEndian.{number}
-use Rattle.protocol.specs.Instance.{Instance}
-use Rattle.protocol.specs.Round.{State, decided, crashed}
-use Rattle.protocol.specs.Run.{runOf, crashesOf}
-use Rattle.protocol.specs.Consensus.{IsProcess}
+use Rattle.consensus.specs.Instance.{Instance}
+use Rattle.consensus.specs.State.{State, decided, crashed}
+use Rattle.coordinator.specs.Run.{runOf, crashesOf}
+use Rattle.consensus.specs.Consensus.{IsProcess}
 use Rattle.formats.specs.Line.{Line, bytes, noLine, linesOf}
 use Rattle.formats.specs.Says.{isKind}
 

@@ -2,8 +2,9 @@
 use mathlib.Core.List.{List, [], _∷_, _++_}
 use mathlib.Core.Path.{_≡_}
 use Prim.Native.Nat.{ℕ}
-use Rattle.protocol.specs.Instance.{Instance}
-use Rattle.protocol.specs.Consensus.{Decides, endOf}
+use Rattle.consensus.specs.Instance.{Instance}
+use Rattle.consensus.specs.Consensus.{Decides}
+use Rattle.coordinator.specs.Run.{endOf}
 use Rattle.formats.specs.Reading.{accepted}
 use Rattle.formats.specs.Ticket.{readTicket}
 use Rattle.formats.specs.Table.{textOf, opening, case1, case3}

@@ -9,7 +9,7 @@ use lib.Dec.{leb, ltb}
 use lib.ListN.{length, getD}
 use borrow.Author.Tests.{leb-true, le-leb, lt-leb, eq-eqb, ne-eqb}
 use Rattle.general.proofs.Tests.{refuted, same-test}
-use Rattle.protocol.proofs.Limits.{limits-pass}
+use Rattle.consensus.proofs.Limits.{limits-pass}
 use Rattle.part_format.specs.PartState.{identityValid, roundValid, fieldsValid, stateValid, stateFrom, stateRefusal}
 use Rattle.part_format.proofs.Valid.{Identity, identity-says, Within, round-within, fields-say, within-valid}
 

@@ -10,7 +10,7 @@ use lib.ListN.{length, getD, take, drop, length-drop}
 use lib.Seq.{take-all, length-take-le, getD-take, getD-drop}
 use borrow.Author.Tests.{eq-eqb, ne-eqb}
 use Rattle.general.specs.BigEndian.{number}
-use Rattle.protocol.specs.Message.{nothing, estimate, estimateAndCommit}
+use Rattle.coordinator.specs.Message.{nothing, estimate, estimateAndCommit}
 use Rattle.part_format.specs.PartState.{stateFrom, isOwnRound}
 use Rattle.part_format.specs.Frame.{isDataFrame, isCommitFrame, messagesFrom, heardBy}
 

@@ -1,6 +1,6 @@
 -- The answers of the code's reader, as the definitions' messages (document 01, 'The desk part': "what was heard").
 use mathlib.Core.Option.{Option, some, none}
-use Rattle.protocol.specs.Message as message
+use Rattle.coordinator.specs.Message as message
 use Rattle.encoding.specs.declared.frame.Messages.{Messages}
 use Rattle.encoding.specs.declared.frame.Messages.the-variants.{Nothing, Estimate, EstimateAndCommit}
 use Rattle.encoding.specs.declared.frame.Heard.{Heard}

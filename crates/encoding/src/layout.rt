@@ -5,7 +5,7 @@ ghost use Prim.Native.Nat.{_+_, _≤_};
 ghost use lib.ListN.{length, take, drop};
 ghost use lib.Seq.{sets};
 ghost use Rattle.general.specs.BigEndian.{number, bytesOf};
-ghost use Rattle.protocol.specs.Message.{estimateAndCommit};
+ghost use Rattle.coordinator.specs.Message.{estimateAndCommit};
 ghost use Rattle.part_format.specs.PartState.{stateBytes};
 ghost use Rattle.part_format.specs.Frame.{framesOf};
 

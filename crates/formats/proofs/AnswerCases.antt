@@ -2,7 +2,7 @@
 use mathlib.Core.Path.{refl}
 use Rattle.general.specs.BigEndian.{number, numberFrom, bytesOf}
 use Rattle.general.specs.Text.{ascii}
-use Rattle.protocol.specs.Instance.{pointFrom, withinLimits}
+use Rattle.consensus.specs.Instance.{pointFrom, withinLimits}
 use Rattle.formats.specs.Digit.{digitValue, isDigit}
 use Rattle.formats.specs.Line.{scan, closed, unclosed, linesFrom, linesOf}
 use Rattle.formats.specs.FailureLine.{placesCrash, allBetween, suitsStep}

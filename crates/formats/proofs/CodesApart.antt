@@ -7,10 +7,10 @@ use native.Mathlib.Omega.{arith}
 use borrow.Author.Tests.{leb-true}
 use lib.Dec.{ltb}
 use lib.ListN.{length}
-use Rattle.protocol.specs.Instance.{Instance}
-use Rattle.protocol.specs.Run.{runOf}
-use Rattle.protocol.specs.Settling.{qualifies}
-use Rattle.protocol.proofs.Counts.{counts-fit}
+use Rattle.consensus.specs.Instance.{Instance}
+use Rattle.coordinator.specs.Run.{runOf}
+use Rattle.coordinator.specs.Settling.{qualifies}
+use Rattle.coordinator.proofs.Counts.{counts-fit}
 use Rattle.formats.specs.Reading.{Reading, accepted, refused}
 use Rattle.formats.specs.Ticket.{readTicket}
 use Rattle.general.proofs.Tests.{both}

@@ -6,8 +6,8 @@ use native.Mathlib.Omega.{arith}
 use lib.Dec.{eqb, leb}
 use borrow.Author.Tests.{ltb-true, leb-true, eqb-true}
 use Rattle.general.proofs.Tests.{both}
-use Rattle.protocol.specs.Instance.{crashes, beforeSending, duringData, duringCommits, pointFrom}
-use Rattle.protocol.specs.WellFormed.{PointAllowed, FaultAllowed}
+use Rattle.consensus.specs.Instance.{crashes, beforeSending, duringData, duringCommits, pointFrom}
+use Rattle.coordinator.specs.WellFormed.{PointAllowed, FaultAllowed}
 use Rattle.formats.specs.declared.FailureLine.{FailureLine}
 use Rattle.formats.specs.FailureLine.{placesCrash, allBetween, suitsStep, faultBy}
 

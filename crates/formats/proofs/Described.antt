@@ -3,7 +3,7 @@ use mathlib.Core.Path.{refl}
 use Rattle.general.specs.Bits.{member, membersTo}
 use Rattle.general.specs.BigEndian.{number, numberFrom}
 use Rattle.general.specs.Text.{ascii}
-use Rattle.protocol.specs.Instance.{pointFrom, faultOf, withinLimits}
+use Rattle.consensus.specs.Instance.{pointFrom, faultOf, withinLimits}
 use Rattle.formats.specs.Digit.{digitValue, isDigit}
 use Rattle.formats.specs.Line.{scan, closed, unclosed, linesFrom, linesOf}
 use Rattle.formats.specs.FailureLine.{placesCrash, allBetween, suitsStep}

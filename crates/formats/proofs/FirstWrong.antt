@@ -7,9 +7,9 @@ use native.Mathlib.Omega.{arith}
 use borrow.Author.Tests.{lt-ltb, le-ltb, ltb-true, ltb-false}
 use lib.Dec.{ltb}
 use lib.ListN.{length}
-use Rattle.protocol.specs.Instance.{Instance}
+use Rattle.consensus.specs.Instance.{Instance}
 use Rattle.formats.specs.Line.{Line, bytes, noLine, linesOf}
-use Rattle.formats.specs.Step.{Step, next, refuse}
+use Rattle.formats.specs.LineVerdict.{LineVerdict, next, refuse}
 use Rattle.formats.specs.Reading.{Reading, refused, proceed, readFrom}
 use Rattle.formats.specs.Accept.{Stage, header, body, accept}
 use Rattle.formats.specs.declared.Place.the-variants.{Proposals, Failures, Ended}
@@ -70,7 +70,7 @@ module _ (text : List ℕ) where
     lines-wrong (noLine ∷ lines) s k passed e = told 2 (suc k) refusal line e (notALine short passed)
     lines-wrong (bytes b ∷ lines) s k passed e = by-step (accept s b) refl e (λ (u : Stage) h. lines-wrong lines u (suc k) h)
       where
-        by-step : (step : Step Stage) → accept s b ≡ step → proceed step (suc k) (λ u. readFrom accept atEnd u (suc (suc k)) lines) ≡ refused refusal line
+        by-step : (step : LineVerdict Stage) → accept s b ≡ step → proceed step (suc k) (λ u. readFrom accept atEnd u (suc (suc k)) lines) ≡ refused refusal line
             → ((u : Stage) → Passed header (linesOf text) (suc k) u lines → readFrom accept atEnd u (suc (suc k)) lines ≡ refused refusal line → FirstWrong text refusal line)
             → FirstWrong text refusal line
         by-step (next u) at h more = more u (passed-one passed at) h

@@ -3,12 +3,12 @@ use mathlib.Core.List.{List, [], _∷_}
 use Prim.Native.Nat.{ℕ, suc}
 use Rattle.general.proofs.Bytes.{Bytes}
 use Rattle.formats.specs.Line.{Line, bytes, noLine}
-use Rattle.formats.specs.Step.{Step, next, refuse}
+use Rattle.formats.specs.LineVerdict.{LineVerdict, next, refuse}
 use Rattle.formats.specs.Reading.{Reading, accepted, refused, proceed, readFrom}
 use Rattle.formats.proofs.LineBytes.{Lines}
 
 -- The next stage, if there is one, has the property.
-unfoldable pub Keeps : {S : Type 0} → (S → Type 0) → Step S → Type 0
+unfoldable pub Keeps : {S : Type 0} → (S → Type 0) → LineVerdict S → Type 0
 Keeps P (next s) = P s
 Keeps P (refuse number) = Unit {0}
 
@@ -17,9 +17,9 @@ unfoldable pub Gives : {A : Type 0} → (A → Type 0) → Reading A → Type 0
 Gives Q (accepted a) = Q a
 Gives Q (refused number k) = Unit {0}
 
-module _ {S A : Type 0} (accept : S → List ℕ → Step S) (end : S → ℕ → Reading A) (P : S → Type 0) (Q : A → Type 0)
+module _ {S A : Type 0} (accept : S → List ℕ → LineVerdict S) (end : S → ℕ → Reading A) (P : S → Type 0) (Q : A → Type 0)
     (keeps : (s : S) (b : List ℕ) → Bytes b → P s → Keeps P (accept s b)) (ends : (s : S) (k : ℕ) → P s → Gives Q (end s k)) where
-  proceed-gives : (step : Step S) (k : ℕ) (go : S → Reading A) → Keeps P step → ((s : S) → P s → Gives Q (go s)) → Gives Q (proceed step k go)
+  proceed-gives : (step : LineVerdict S) (k : ℕ) (go : S → Reading A) → Keeps P step → ((s : S) → P s → Gives Q (go s)) → Gives Q (proceed step k go)
   unfolding Keeps Gives proceed
   proceed-gives (next s) k go h g = g s h
   proceed-gives (refuse number) k go h g = tt

@@ -8,7 +8,7 @@ use borrow.Author.Tests.{eqb-true, leb-false}
 use lib.Dec.{eqb, leb}
 use lib.ListN.{getD, drop}
 use Rattle.general.specs.BigEndian.{number}
-use Rattle.protocol.specs.Instance.{withinLimits}
+use Rattle.consensus.specs.Instance.{withinLimits}
 use Rattle.formats.specs.FailureLine.{placesCrash, suitsStep}
 use Rattle.formats.specs.Says.{isKind, headerSays, afterProposal, proposalSays, failureLine, crashSays, failureSays, lineSays}
 use Rattle.formats.specs.declared.Place.{Place}

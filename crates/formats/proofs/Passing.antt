@@ -2,7 +2,7 @@
 use mathlib.Core.Path.{_≡_, refl}
 use Prim.Native.Nat.{ℕ}
 use native.Mathlib.Omega.{arith}
-use Rattle.formats.specs.Step.{Step, next, refuse}
+use Rattle.formats.specs.LineVerdict.{LineVerdict, next, refuse}
 use Rattle.formats.specs.Reading.{Reading, accepted, refused, proceed}
 
 -- A refusal is not the next stage, nor what a text is accepted with.
@@ -14,7 +14,7 @@ refused-accepted refusal k a e = let z : _≡_ {A = ℕ} 0 1 = cc in omega arith
 
 -- Where an accepted text went on.
 module _ {S : Type 0} where
-  pub proceeds : {A : Type 0} (step : Step S) (k : ℕ) (go : S → Reading A) (a : A) → proceed step k go ≡ accepted a → (s : S) × (step ≡ next s) × (go s ≡ accepted a)
+  pub proceeds : {A : Type 0} (step : LineVerdict S) (k : ℕ) (go : S → Reading A) (a : A) → proceed step k go ≡ accepted a → (s : S) × (step ≡ next s) × (go s ≡ accepted a)
   unfolding proceed
   proceeds (next s) k go a e = (s, refl, e)
   proceeds (refuse refusal) k go a e = absurd (refused-accepted refusal k a e)

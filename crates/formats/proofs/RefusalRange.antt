@@ -8,7 +8,7 @@ use lib.Dec.{eqb, ltb}
 use lib.ListN.{length}
 use borrow.Author.Tests.{ltb-false}
 use Rattle.formats.specs.Line.{Line, bytes, noLine, Scan, even, odd, broken, scan, closed, unclosed, linesFrom, linesOf}
-use Rattle.formats.specs.Step.{Step, next, refuse}
+use Rattle.formats.specs.LineVerdict.{LineVerdict, next, refuse}
 use Rattle.formats.specs.Reading.{Reading, accepted, refused, proceed, readFrom}
 use Rattle.formats.specs.Accept.{Stage, header, body, begin, store, accept}
 use Rattle.formats.specs.declared.Place.{Place}
@@ -19,7 +19,7 @@ use Rattle.formats.proofs.LineCases.{HeaderCase, limitsSaid, headerRefu
 use Rattle.formats.specs.Ticket.{ticketLimit, atEnd, readTicket}
 
 -- A line, if it is refused, is refused with one of these numbers.
-unfoldable Numbered : {S : Type 0} → Step S → Type 0
+unfoldable Numbered : {S : Type 0} → LineVerdict S → Type 0
 Numbered (next s) = Unit {0}
 Numbered (refuse number) = (1 ≤ number) × (number ≤ 8)
 
@@ -29,9 +29,9 @@ RefusedBy last (accepted a) = Unit {0}
 RefusedBy last (refused number k) = (1 ≤ number) × (number ≤ 8) × (k ≤ last)
 
 -- Reading, whatever the format.
-module _ {S A : Type 0} (accept : S → List ℕ → Step S) (end : S → ℕ → Reading A) (last : ℕ)
+module _ {S A : Type 0} (accept : S → List ℕ → LineVerdict S) (end : S → ℕ → Reading A) (last : ℕ)
     (numbered : (s : S) (b : List ℕ) → Numbered (accept s b)) (ends : (s : S) (k : ℕ) → k ≤ last → RefusedBy last (end s k)) where
-  proceed-refused : (step : Step S) (k : ℕ) (go : S → Reading A) → Numbered step → k ≤ last → ((s : S) → RefusedBy last (go s)) → RefusedBy last (proceed step k go)
+  proceed-refused : (step : LineVerdict S) (k : ℕ) (go : S → Reading A) → Numbered step → k ≤ last → ((s : S) → RefusedBy last (go s)) → RefusedBy last (proceed step k go)
   unfolding Numbered RefusedBy proceed
   proceed-refused (next s) k go h g more = more s
   proceed-refused (refuse number) k go h g more = (h .0, h .1, g)

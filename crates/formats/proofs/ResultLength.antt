@@ -6,11 +6,11 @@ use native.Mathlib.Omega.{arith}
 use lib.ListN.{length, length-append}
 use Rattle.general.specs.BigEndian.{bytesOf}
 use Rattle.general.specs.Indexed.{mapFrom}
-use Rattle.protocol.specs.Instance.{Instance}
-use Rattle.protocol.specs.Round.{State, undecided, decided, crashed}
-use Rattle.protocol.specs.Run.{Run, runOf, crashesOf}
-use Rattle.protocol.specs.WellFormed.{WellFormed}
-use Rattle.protocol.proofs.Ends.{states-at-end}
+use Rattle.consensus.specs.Instance.{Instance}
+use Rattle.consensus.specs.State.{State, undecided, decided, crashed}
+use Rattle.coordinator.specs.Run.{Run, runOf, crashesOf}
+use Rattle.coordinator.specs.WellFormed.{WellFormed}
+use Rattle.coordinator.proofs.Ends.{states-at-end}
 use Rattle.formats.specs.HexText.{hexDigits, hexLine}
 use Rattle.formats.specs.ResultLine.{endBytes, processLine, lastLine, processLineSize, lastLineSize, joined, resultLines, resultText, resultSize}
 

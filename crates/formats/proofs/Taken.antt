@@ -5,8 +5,8 @@ use mathlib.Core.Bool.{true}
 use Prim.Native.Nat.{ℕ, suc}
 use lib.ListN.{getD, drop}
 use Rattle.general.specs.BigEndian.{number}
-use Rattle.protocol.specs.Instance.{Instance, withinLimits}
-use Rattle.formats.specs.Step.{next}
+use Rattle.consensus.specs.Instance.{Instance, withinLimits}
+use Rattle.formats.specs.LineVerdict.{next}
 use Rattle.formats.specs.Says.{isKind, headerSays, afterProposal, failureLine, lineSays}
 use Rattle.formats.specs.Accept.{Stage, body, unproposed, withProposal, withCrash, begin, store}
 use Rattle.formats.specs.declared.Place.{Place}

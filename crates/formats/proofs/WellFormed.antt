@@ -11,8 +11,9 @@ use Rattle.general.specs.BigEndian.{number}
 use Rattle.general.proofs.Tests.{both}
 use Rattle.general.proofs.Bytes.{AllBelow, Bytes, below-snoc, drop-bytes}
 use Rattle.general.proofs.BigEndian.{number-below}
-use Rattle.protocol.specs.Instance.{Instance, correct, faultOf, withinLimits}
-use Rattle.protocol.specs.WellFormed.{FaultAllowed, faultCount, WellFormed}
+use Rattle.consensus.specs.Instance.{Instance, correct, faultOf, withinLimits}
+use Rattle.coordinator.specs.WellFormed.{FaultAllowed, WellFormed}
+use Rattle.consensus.specs.WellFormed.{faultCount}
 use Rattle.formats.specs.Line.{linesOf}
 use Rattle.formats.specs.Reading.{accepted, refused, readFrom}
 use Rattle.formats.specs.declared.FailureLine.{FailureLine}
@@ -28,8 +29,8 @@ use Rattle.formats.proofs.LineBytes.{lines-bytes}
 use Rattle.formats.proofs.LineCases.{HeaderCase, limitsSaid, headerRefused, header-case, CrashPasses, LineCase, proposalSaid, crashSaid, endSaid, lineRefused, line-case}
 use Rattle.formats.proofs.Keeping.{Keeps, Gives, reading-gives}
 use Rattle.formats.proofs.CrashAllowed.{crash-placed, crash-allowed}
-use Rattle.protocol.proofs.Limits.{Limits, limits-hold}
-use Rattle.protocol.proofs.FaultsStated.{count-set, faults-none, allowed-set}
+use Rattle.consensus.proofs.Limits.{Limits, limits-hold}
+use Rattle.consensus.proofs.FaultsStated.{count-set, faults-none, allowed-set}
 
 -- All values fit four bytes.
 abbrev ValuesFit : List ℕ → Type 0

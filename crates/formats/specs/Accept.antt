@@ -2,8 +2,8 @@
 use mathlib.Core.List.{List, [], _∷_, _++_}
 use Prim.Native.Nat.{ℕ, _-_}
 use lib.ListN.{set, replicate}
-use Rattle.protocol.specs.Instance.{Instance, correct}
-use Rattle.formats.specs.Step.{Step, next, refuse}
+use Rattle.consensus.specs.Instance.{Instance, correct}
+use Rattle.formats.specs.LineVerdict.{LineVerdict, next, refuse}
 use Rattle.formats.specs.Says.{headerSays, lineSays}
 use Rattle.formats.specs.FailureLine.{faultBy}
 use Rattle.formats.specs.declared.FailureLine.{FailureLine}
@@ -38,18 +38,18 @@ withCrash x l =
     }
 
 -- What the header makes of a ticket.
-unfoldable pub begin : HeaderAnswer → Step Stage
+unfoldable pub begin : HeaderAnswer → LineVerdict Stage
 begin (HeaderAnswer.Limits n t) = next (body (Proposals 0) (unproposed n t))
 begin (HeaderAnswer.Refused number) = refuse number
 
 -- What a line behind it makes of the instance described so far.
-unfoldable pub store : Instance → LineAnswer → Step Stage
+unfoldable pub store : Instance → LineAnswer → LineVerdict Stage
 store x (Proposal count v to) = next (body to (withProposal x v))
 store x (Crash lines l) = next (body (Failures lines (l .process)) (withCrash x l))
 store x End = next (body Ended x)
 store x (Refused number) = refuse number
 
 -- One line of a ticket.
-unfoldable pub accept : Stage → List ℕ → Step Stage
+unfoldable pub accept : Stage → List ℕ → LineVerdict Stage
 accept header b = begin (headerSays b)
 accept (body place x) b = store x (lineSays (x .processes) (x .resilience) place b)

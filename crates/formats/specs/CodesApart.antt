@@ -3,8 +3,8 @@ use mathlib.Core.List.{List}
 use mathlib.Core.Path.{_≡_}
 use mathlib.Core.Bool.{true}
 use Prim.Native.Nat.{ℕ, _/_, _%_, _≤_, _<_}
-use Rattle.protocol.specs.Instance.{Instance}
-use Rattle.protocol.specs.Settling.{qualifies}
+use Rattle.consensus.specs.Instance.{Instance}
+use Rattle.coordinator.specs.Settling.{qualifies}
 use Rattle.formats.specs.Reading.{Reading, accepted, refused}
 use Rattle.formats.specs.Ticket.{readTicket}
 use Rattle.formats.specs.ResultLine.{resultText, resultSize}

@@ -4,7 +4,7 @@ use mathlib.Core.Path.{_≡_}
 use Prim.Native.Nat.{ℕ}
 use Prim.Native.String.{String}
 use Rattle.general.specs.Bits.{membersTo}
-use Rattle.protocol.specs.Instance.{Instance, Fault, correct, crashes, beforeSending, duringData, duringCommits, faultOf}
+use Rattle.consensus.specs.Instance.{Instance, Fault, correct, crashes, beforeSending, duringData, duringCommits, faultOf}
 use Rattle.formats.specs.Reading.{Reading, accepted, refused}
 use Rattle.formats.specs.Ticket.{readTicket}
 use Rattle.formats.specs.Table.{textOf, opening64}

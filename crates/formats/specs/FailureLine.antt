@@ -3,7 +3,7 @@
 use mathlib.Core.Bool.{Bool, cond, _&&_}
 use Prim.Native.Nat.{ℕ, suc, _-_, _%_, _^_}
 use lib.Dec.{eqb, ltb, leb}
-use Rattle.protocol.specs.Instance.{Fault, crashes, pointFrom}
+use Rattle.consensus.specs.Instance.{Fault, crashes, pointFrom}
 use Rattle.formats.specs.declared.FailureLine.{FailureLine}
 
 -- What a failure line must hold to escape refusal 7: station in 1 to n and rising, round in 1 to t + 1, step at most 02.

@@ -6,7 +6,7 @@ use mathlib.Core.Path.{_≡_}
 use Prim.Native.Nat.{ℕ, zero, suc, _≤_, _<_}
 use lib.ListN.{length}
 use Rattle.formats.specs.Line.{Line, bytes, noLine, linesOf}
-use Rattle.formats.specs.Step.{next, refuse}
+use Rattle.formats.specs.LineVerdict.{next, refuse}
 use Rattle.formats.specs.Accept.{Stage, header, body, accept}
 use Rattle.formats.specs.declared.Place.the-variants.{Proposals, Failures, Ended}
 use Rattle.formats.specs.Ticket.{ticketLimit}

@@ -1,7 +1,7 @@
 pub mod Digit
 pub mod Line
 pub mod FailureLine
-pub mod Step
+pub mod LineVerdict
 pub mod Says
 pub mod Accept
 pub mod Reading

@@ -3,9 +3,9 @@ use mathlib.Core.List.{List, [], _∷_, _++_}
 use Prim.Native.Nat.{ℕ, _+_, _*_}
 use Rattle.general.specs.BigEndian.{bytesOf}
 use Rattle.general.specs.Indexed.{mapFrom}
-use Rattle.protocol.specs.Instance.{Instance}
-use Rattle.protocol.specs.Round.{State, undecided, decided, crashed}
-use Rattle.protocol.specs.Run.{Run, runOf, crashesOf}
+use Rattle.consensus.specs.Instance.{Instance}
+use Rattle.consensus.specs.State.{State, undecided, decided, crashed}
+use Rattle.coordinator.specs.Run.{Run, runOf, crashesOf}
 use Rattle.formats.specs.HexText.{hexLine, lineSize}
 
 -- The end of a process (01 decided, 02 dark), the round of it, and the value, 0 if dark. No process is left undecided by the run of an accepted ticket,

@@ -6,7 +6,7 @@ use mathlib.Core.Bool.{Bool, cond, not, _&&_}
 use lib.Dec.{eqb, leb}
 use lib.ListN.{length, getD, take, drop}
 use Rattle.general.specs.BigEndian.{number}
-use Rattle.protocol.specs.Instance.{withinLimits}
+use Rattle.consensus.specs.Instance.{withinLimits}
 use Rattle.formats.specs.declared.FailureLine.{FailureLine}
 use Rattle.formats.specs.declared.Place.{Place}
 use Rattle.formats.specs.declared.Place.the-variants.{Proposals, Failures, Ended}

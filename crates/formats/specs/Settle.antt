@@ -2,8 +2,8 @@
 use mathlib.Core.Path.{_≡_}
 use Prim.Native.Nat.{ℕ}
 use mathlib.Core.Bool.{true}
-use Rattle.protocol.specs.Instance.{Instance}
-use Rattle.protocol.specs.Settling.{qualifies}
+use Rattle.consensus.specs.Instance.{Instance}
+use Rattle.coordinator.specs.Settling.{qualifies}
 use Rattle.formats.specs.Reading.{Reading, accepted, refused}
 
 -- An answer of the settling operation, a round or a refusal with its line, is right for a ticket as read: a round that qualifies, or that refusal.

@@ -4,7 +4,7 @@ use Prim.Native.Nat.{ℕ}
 use mathlib.Core.Bool.{cond}
 use lib.Dec.{ltb}
 use lib.ListN.{length}
-use Rattle.protocol.specs.Instance.{Instance}
+use Rattle.consensus.specs.Instance.{Instance}
 use Rattle.formats.specs.Line.{linesOf}
 use Rattle.formats.specs.Reading.{Reading, accepted, refused, readFrom}
 use Rattle.formats.specs.Accept.{Stage, header, body, accept}

@@ -4,10 +4,10 @@ use mathlib.Core.List.{List, [], _∷_, map}
 use mathlib.Core.Path.{_≡_}
 use mathlib.Core.Bool.{cond}
 use Prim.Native.Nat.{ℕ, zero, suc, _+_, _-_, _*_}
-use Rattle.protocol.specs.Instance.{Instance}
-use Rattle.protocol.specs.Run.{runOf, crashesOf}
-use Rattle.protocol.specs.SpeakerBound.{boundBySpeakers}
-use Rattle.protocol.specs.Settling.{qualifies}
+use Rattle.consensus.specs.Instance.{Instance}
+use Rattle.coordinator.specs.Run.{runOf, crashesOf}
+use Rattle.coordinator.specs.SpeakerBound.{boundBySpeakers}
+use Rattle.coordinator.specs.Settling.{qualifies}
 use Rattle.formats.specs.Reading.{Reading, accepted, refused}
 use Rattle.formats.specs.Ticket.{readTicket}
 use Rattle.formats.specs.Table.{Case, textOf, case1, case2, case3, case4, case5, case6, case7, case8, case9}

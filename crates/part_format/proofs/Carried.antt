@@ -1,8 +1,8 @@
 -- Messages whose value the four bytes of a frame can carry: what a process sends is such, and what arrives of it. Assumes nothing.
 use mathlib.Core.Bool.{Bool, true, false}
 use Prim.Native.Nat.{ℕ, _<_, _^_}
-use Rattle.protocol.specs.Message.{Messages, nothing, estimate, estimateAndCommit, Reach, none, dataOnly, all, arriving}
-use Rattle.protocol.specs.Transition.{sends}
+use Rattle.coordinator.specs.Message.{Messages, nothing, estimate, estimateAndCommit, Reach, none, dataOnly, all, arriving}
+use Rattle.coordinator.specs.Transition.{sends}
 
 unfoldable pub Carried : Messages → Type 0
 Carried nothing = Unit

@@ -5,8 +5,8 @@ use Prim.Native.Nat.{ℕ, _≤_}
 use lib.ListN.{length}
 use native.Mathlib.Omega.{arith}
 use Rattle.general.specs.BigEndian.{number, numberFrom, bytesOf}
-use Rattle.protocol.specs.Instance.{withinLimits}
-use Rattle.protocol.specs.Transition.{sends}
+use Rattle.consensus.specs.Instance.{withinLimits}
+use Rattle.coordinator.specs.Transition.{sends}
 use Rattle.part_format.specs.PartState.{stateFrom, identityValid, roundValid, fieldsValid, stateValid, stateRefusal, isOwnRound}
 use Rattle.part_format.specs.Frame.{dataFrame, commitFrame, framesOf, messagesFrom, heardBy}
 use Rattle.part_format.specs.Start.{startRefusal, startBytes}

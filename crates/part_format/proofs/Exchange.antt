@@ -3,8 +3,8 @@ use mathlib.Core.Path.{_≡_, sym, _∙_}
 use mathlib.Core.Option.{some}
 use mathlib.Core.Bool.{true}
 use Prim.Native.Nat.{ℕ, _≤_, _<_, _^_}
-use Rattle.protocol.specs.Message.{Messages, nothing}
-use Rattle.protocol.specs.Transition.{sends}
+use Rattle.coordinator.specs.Message.{Messages, nothing}
+use Rattle.coordinator.specs.Transition.{sends}
 use Rattle.part_format.specs.PartState.{PartState, stateBytes, stateFrom, stateValid, isOwnRound}
 use Rattle.part_format.specs.Frame.{framesOf, heardBy}
 use Rattle.part_format.specs.Speak.{spokenBy, speakRefusal, speakYields}

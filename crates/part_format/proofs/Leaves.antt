@@ -8,7 +8,7 @@ use native.Mathlib.Omega.{arith}
 use lib.Dec.{eqb}
 use lib.ListN.{length}
 use borrow.Author.Tests.{eqb-true, eqb-false}
-use Rattle.protocol.specs.Message.{Messages}
+use Rattle.coordinator.specs.Message.{Messages}
 use Rattle.part_format.specs.PartState.{stateBytes, stateFrom, identityValid, stateValid, stateRefusal, ValidBytes}
 use Rattle.part_format.specs.Frame.{heardBy}
 use Rattle.part_format.specs.Start.{startState, startRefusal, startBytes}

@@ -9,8 +9,8 @@ use lib.ListN.{length}
 use lib.Dec.{eqb}
 use borrow.Author.Tests.{eq-eqb, ne-eqb}
 use Rattle.general.specs.BigEndian.{bytesOf}
-use Rattle.protocol.specs.Message.{estimateAndCommit, Messages}
-use Rattle.protocol.specs.Transition.{sends}
+use Rattle.coordinator.specs.Message.{estimateAndCommit, Messages}
+use Rattle.coordinator.specs.Transition.{sends}
 use Rattle.part_format.specs.PartState.{PartState, stateBytes, identityValid, stateFrom, stateRefusal, isOwnRound}
 use Rattle.part_format.specs.Start.{startRefusal, startState, startBytes}
 use Rattle.part_format.specs.Frame.{dataFrame, commitFrame, framesOf, heardBy}

@@ -2,8 +2,8 @@
 -- Both sides are computed, so the line below names every definition on the way. Assumes nothing.
 use mathlib.Core.Path.{refl}
 use Rattle.general.specs.BigEndian.{number, numberFrom, bytesOf}
-use Rattle.protocol.specs.Instance.{withinLimits}
-use Rattle.protocol.specs.Transition.{sends, receives}
+use Rattle.consensus.specs.Instance.{withinLimits}
+use Rattle.coordinator.specs.Transition.{sends, receives}
 use Rattle.part_format.specs.PartState.{stateBytes, stateFrom, identityValid, roundValid, fieldsValid, stateValid, stateRefusal, isOwnRound}
 use Rattle.part_format.specs.Frame.{dataFrame, commitFrame, framesOf, isDataFrame, isCommitFrame, messagesFrom, heardBy}
 use Rattle.part_format.specs.Start.{startRefusal, startState, startBytes}

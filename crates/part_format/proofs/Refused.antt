@@ -9,7 +9,7 @@ use native.Mathlib.Omega.{arith}
 use lib.Dec.{eqb, ltb}
 use lib.ListN.{length}
 use borrow.Author.Tests.{ne-eqb}
-use Rattle.protocol.specs.Message.{Messages}
+use Rattle.coordinator.specs.Message.{Messages}
 use Rattle.part_format.specs.PartState.{stateFrom, identityValid, stateValid, stateRefusal, markOpen}
 use Rattle.part_format.specs.Frame.{heardBy}
 use Rattle.part_format.specs.Start.{startRefusal, startBytes}

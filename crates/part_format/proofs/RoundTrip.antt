@@ -9,7 +9,7 @@ use lib.ListN.{length}
 use borrow.Author.Tests.{eq-eqb}
 use Rattle.general.specs.BigEndian.{bytesOf}
 use Rattle.general.proofs.BigEndian.{number-bytes}
-use Rattle.protocol.specs.Message.{Messages, nothing, estimate, estimateAndCommit}
+use Rattle.coordinator.specs.Message.{Messages, nothing, estimate, estimateAndCommit}
 use Rattle.part_format.specs.PartState.{PartState, stateBytes, stateFrom, isOwnRound}
 use Rattle.part_format.specs.Frame.{dataFrame, commitFrame, framesOf, isDataFrame, isCommitFrame, messagesFrom, heardBy}
 use Rattle.part_format.proofs.Carried.{Carried}

@@ -5,8 +5,8 @@ use Prim.Native.Nat.{ℕ, suc, _<_}
 use native.Mathlib.Omega.{arith}
 use lib.Dec.{eqb}
 use borrow.Author.Tests.{eqb-true, eqb-false}
-use Rattle.protocol.specs.Message.{Messages, nothing, estimate, estimateAndCommit}
-use Rattle.protocol.specs.Transition.{continues, decides, receives}
+use Rattle.coordinator.specs.Message.{Messages, nothing, estimate, estimateAndCommit}
+use Rattle.coordinator.specs.Transition.{continues, decides, receives}
 use Rattle.part_format.specs.PartState.{PartState, fieldsValid, stateValid, isOwnRound}
 use Rattle.part_format.specs.Close.{stateAfter, closedOn}
 use Rattle.part_format.proofs.Valid.{Identity, Within, round-within, Fields, fields-say, within-valid, over-valid}

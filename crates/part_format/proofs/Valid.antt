@@ -6,8 +6,8 @@ use native.Mathlib.Omega.{arith}
 use lib.Dec.{eqb, leb, ltb}
 use borrow.Author.Tests.{leb-true, eqb-true, eqb-false, le-leb, lt-ltb, eq-eqb, ne-eqb}
 use Rattle.general.proofs.Tests.{both}
-use Rattle.protocol.specs.Instance.{withinLimits}
-use Rattle.protocol.proofs.Limits.{limits-hold, limits-pass}
+use Rattle.consensus.specs.Instance.{withinLimits}
+use Rattle.consensus.proofs.Limits.{limits-hold, limits-pass}
 use Rattle.part_format.specs.PartState.{identityValid, roundValid, fieldsValid}
 
 -- Within the limits every number is a byte.

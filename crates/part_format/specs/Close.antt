@@ -4,8 +4,8 @@ use mathlib.Core.Option.{Option, some, none}
 use Prim.Native.Nat.{ℕ, suc}
 use mathlib.Core.Bool.{cond, not}
 use lib.Dec.{eqb}
-use Rattle.protocol.specs.Message.{Messages}
-use Rattle.protocol.specs.Transition.{Outcome, continues, decides, receives}
+use Rattle.coordinator.specs.Message.{Messages}
+use Rattle.coordinator.specs.Transition.{Outcome, continues, decides, receives}
 use Rattle.part_format.specs.PartState.{PartState, stateBytes, stateFrom, markOpen, markDecided, markOver, stateRefusal, isOwnRound}
 use Rattle.part_format.specs.Frame.{heardBy}
 

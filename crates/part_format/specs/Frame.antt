@@ -6,7 +6,7 @@ use mathlib.Core.Bool.{Bool, cond, not, _&&_}
 use lib.Dec.{eqb}
 use lib.ListN.{length, getD, take, drop}
 use Rattle.general.specs.BigEndian.{number, bytesOf}
-use Rattle.protocol.specs.Message.{Messages, nothing, estimate, estimateAndCommit}
+use Rattle.coordinator.specs.Message.{Messages, nothing, estimate, estimateAndCommit}
 use Rattle.part_format.specs.PartState.{PartState, isOwnRound}
 
 unfoldable pub dataFrame : ℕ → ℕ → List ℕ

@@ -6,7 +6,7 @@ use mathlib.Core.Bool.{Bool, true, cond, not, _&&_}
 use lib.Dec.{eqb, ltb, leb}
 use lib.ListN.{length, getD, drop}
 use Rattle.general.specs.BigEndian.{number, bytesOf}
-use Rattle.protocol.specs.Instance.{withinLimits}
+use Rattle.consensus.specs.Instance.{withinLimits}
 
 -- The process (document 01: station), n, t, the round that it is in, its mark, its estimate or decided value.
 pub record PartState : Type 0 where

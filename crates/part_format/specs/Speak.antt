@@ -4,7 +4,7 @@ use Prim.Native.Nat.{ℕ}
 use mathlib.Core.Bool.{cond, not}
 use lib.Dec.{eqb, ltb}
 use lib.ListN.{length, drop}
-use Rattle.protocol.specs.Transition.{sends}
+use Rattle.coordinator.specs.Transition.{sends}
 use Rattle.part_format.specs.PartState.{PartState, stateFrom, stateRefusal, isOwnRound}
 use Rattle.part_format.specs.Frame.{framesOf}
 

@@ -6,16 +6,17 @@ use Prim.Native.Nat.{ℕ, suc, _^_, _≤_, _<_}
 use native.Mathlib.Omega.{arith}
 use lib.Dec.{eqb}
 use borrow.Author.Tests.{eq-eqb, ne-eqb, eqb-true, eqb-false}
-use Rattle.protocol.specs.Message.{Messages, nothing}
-use Rattle.protocol.specs.Instance.{Instance, Fault}
-use Rattle.protocol.specs.Transition.{Outcome, continues, decides, sends, receives}
-use Rattle.protocol.specs.Round.{State, undecided, decided, crashed, stateOf, sentBy, crashesIn, afterOutcome, after}
-use Rattle.protocol.specs.Run.{runTo}
-use Rattle.protocol.specs.WellFormed.{WellFormed}
-use Rattle.protocol.specs.Consensus.{IsProcess}
-use Rattle.protocol.proofs.Pointwise.{stateAt, state-at}
-use Rattle.protocol.proofs.Values.{Holds, holds-fitting}
-use Rattle.protocol.proofs.Coordinator.{waits-below}
+use Rattle.coordinator.specs.Message.{Messages, nothing}
+use Rattle.consensus.specs.Instance.{Instance, Fault}
+use Rattle.coordinator.specs.Transition.{Outcome, continues, decides, sends, receives}
+use Rattle.consensus.specs.State.{State, undecided, decided, crashed, stateOf, crashesIn}
+use Rattle.coordinator.specs.Round.{sentBy, afterOutcome, after}
+use Rattle.coordinator.specs.Run.{runTo}
+use Rattle.coordinator.specs.WellFormed.{WellFormed}
+use Rattle.consensus.specs.Consensus.{IsProcess}
+use Rattle.coordinator.proofs.Pointwise.{stateAt, state-at}
+use Rattle.coordinator.proofs.Values.{Holds, holds-fitting}
+use Rattle.coordinator.proofs.Coordinator.{waits-below}
 use Rattle.part_format.specs.PartState.{stateBytes, stateFrom, stateValid, isOwnRound, markOpen, markDecided, markOver}
 use Rattle.part_format.specs.Frame.{framesOf}
 use Rattle.part_format.specs.Speak.{speakRefusal, speakYields}

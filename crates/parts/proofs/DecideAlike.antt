@@ -6,16 +6,17 @@ use mathlib.Core.Bool.{true, false}
 use Prim.Native.Nat.{ℕ, zero, suc, _^_, _≤_, _<_}
 use native.Mathlib.Omega.{arith}
 use lib.ListN.{length}
-use Rattle.protocol.specs.Instance.{Instance, faultOf, proposalOf}
-use Rattle.protocol.specs.Delivery.{reach}
-use Rattle.protocol.specs.Round.{State, undecided, decided, crashed, stateOf, sentBy, received}
-use Rattle.protocol.specs.Run.{runTo, runOf}
-use Rattle.protocol.specs.WellFormed.{WellFormed}
-use Rattle.protocol.specs.Consensus.{IsProcess, endOf}
-use Rattle.protocol.proofs.Pointwise.{stateAt, state-at}
-use Rattle.protocol.proofs.Rounds.{received-below}
-use Rattle.protocol.proofs.History.{heardAt, undecided-crashed, decided-crashed}
-use Rattle.protocol.proofs.Values.{Holds, holds-fitting}
+use Rattle.consensus.specs.Instance.{Instance, faultOf, proposalOf}
+use Rattle.coordinator.specs.Delivery.{reach}
+use Rattle.consensus.specs.State.{State, undecided, decided, crashed, stateOf}
+use Rattle.coordinator.specs.Round.{sentBy, received}
+use Rattle.coordinator.specs.Run.{runTo, runOf, endOf}
+use Rattle.coordinator.specs.WellFormed.{WellFormed}
+use Rattle.consensus.specs.Consensus.{IsProcess}
+use Rattle.coordinator.proofs.Pointwise.{stateAt, state-at}
+use Rattle.coordinator.proofs.Rounds.{received-below}
+use Rattle.coordinator.proofs.History.{heardAt, undecided-crashed, decided-crashed}
+use Rattle.coordinator.proofs.Values.{Holds, holds-fitting}
 use Rattle.part_format.specs.PartState.{stateBytes, stateFrom, markOpen, markDecided}
 use Rattle.part_format.specs.Frame.{framesOf}
 use Rattle.part_format.specs.Start.{startRefusal, startState, startBytes}

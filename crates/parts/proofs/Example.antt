@@ -7,15 +7,16 @@ use native.Mathlib.Omega.{arith}
 use lib.ListN.{take, drop}
 use Rattle.general.specs.BigEndian.{number, numberFrom, bytesOf}
 use Rattle.general.specs.Indexed.{mapFrom}
-use Rattle.protocol.specs.Instance.{withinLimits, faultOf}
-use Rattle.protocol.specs.Message.{arriving}
-use Rattle.protocol.specs.Transition.{sends, receives}
-use Rattle.protocol.specs.Delivery.{amongFirst, reachAt, reachIn, reach}
-use Rattle.protocol.specs.Round.{undecided, crashesIn, stateOf, sentBy, received, afterOutcome, after, statesAfter}
-use Rattle.protocol.specs.Undecided.{isUndecided, anyUndecided}
-use Rattle.protocol.specs.Count.{dataAt, commitsAt, countIn, speaks, dataIn, commitsIn}
-use Rattle.protocol.specs.Run.{initial, withRound, runTo, runOf}
-use Rattle.protocol.specs.Consensus.{IsProcess, endOf}
+use Rattle.consensus.specs.Instance.{withinLimits, faultOf}
+use Rattle.coordinator.specs.Message.{arriving}
+use Rattle.coordinator.specs.Transition.{sends, receives}
+use Rattle.coordinator.specs.Delivery.{amongFirst, reachAt, reachIn, reach}
+use Rattle.consensus.specs.State.{undecided, crashesIn, stateOf}
+use Rattle.coordinator.specs.Round.{sentBy, received, afterOutcome, after, statesAfter}
+use Rattle.coordinator.specs.Undecided.{isUndecided, anyUndecided}
+use Rattle.coordinator.specs.Count.{dataAt, commitsAt, countIn, speaks, dataIn, commitsIn}
+use Rattle.coordinator.specs.Run.{initial, withRound, runTo, runOf, endOf}
+use Rattle.consensus.specs.Consensus.{IsProcess}
 use Rattle.part_format.specs.PartState.{stateBytes, stateFrom, identityValid, roundValid, fieldsValid, stateValid, stateRefusal, isOwnRound}
 use Rattle.part_format.specs.Frame.{dataFrame, commitFrame, framesOf, isDataFrame, isCommitFrame, messagesFrom, heardBy}
 use Rattle.part_format.specs.Start.{startRefusal, startState, startBytes}

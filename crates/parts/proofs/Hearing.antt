@@ -8,8 +8,8 @@ use native.Mathlib.Omega.{arith}
 use lib.ListN.{length, getD, take}
 use lib.Seq.{take-nil}
 use Rattle.general.specs.BigEndian.{bytesOf}
-use Rattle.protocol.specs.Message.{Messages, nothing, estimate, estimateAndCommit, Reach, none, dataOnly, all, arriving}
-use Rattle.protocol.specs.Instance.{Instance}
+use Rattle.coordinator.specs.Message.{Messages, nothing, estimate, estimateAndCommit, Reach, none, dataOnly, all, arriving}
+use Rattle.consensus.specs.Instance.{Instance}
 use Rattle.part_format.specs.Frame.{dataFrame, commitFrame, framesOf}
 use Rattle.parts.specs.Part.{Part, crashedIn, partOf, yielded}
 use Rattle.parts.specs.Hearing.{bytesReaching, letThrough, heardFrom, heard}

@@ -5,15 +5,16 @@ use mathlib.Core.Path.{_≡_, refl, sym, ap, fun-ext, _∙_}
 use Prim.Native.Nat.{ℕ, suc, _-_, _^_, _≤_, _<_}
 use native.Mathlib.Omega.{arith}
 use lib.ListN.{length, getD, length-map, List·getD-map}
-use Rattle.protocol.specs.Instance.{Instance}
-use Rattle.protocol.specs.Round.{State, crashed, stateOf}
-use Rattle.protocol.specs.Run.{runTo, runOf, crashesOf}
-use Rattle.protocol.specs.WellFormed.{WellFormed}
-use Rattle.protocol.specs.Consensus.{IsProcess, UniformConsensus, Paired, NoLater, endOf, latestOf}
-use Rattle.protocol.proofs.Pointwise.{states-ext, state-at, length-states}
-use Rattle.protocol.proofs.Values.{Holds, holds-fitting}
-use Rattle.protocol.proofs.Consensus.{uniform-consensus}
-use Rattle.protocol.proofs.Pair.{no-later}
+use Rattle.consensus.specs.Instance.{Instance}
+use Rattle.consensus.specs.State.{State, crashed, stateOf}
+use Rattle.coordinator.specs.Run.{runTo, runOf, crashesOf, endOf, latestOf}
+use Rattle.coordinator.specs.WellFormed.{WellFormed}
+use Rattle.consensus.specs.Consensus.{IsProcess, UniformConsensus, NoLater}
+use Rattle.coordinator.specs.Pairing.{Paired}
+use Rattle.coordinator.proofs.Pointwise.{states-ext, state-at, length-states}
+use Rattle.coordinator.proofs.Values.{Holds, holds-fitting}
+use Rattle.coordinator.proofs.Consensus.{uniform-consensus}
+use Rattle.coordinator.proofs.Pair.{no-later}
 use Rattle.part_format.proofs.RoundTrip.{state-from-bytes}
 use Rattle.parts.specs.Part.{Part, crashedIn, partOf}
 use Rattle.parts.specs.Host.{partsTo, partsOf, endPartOf}

@@ -4,7 +4,7 @@ use Prim.Native.Nat.{ℕ, zero, suc, _≤_}
 use native.Mathlib.Omega.{arith}
 use lib.ListN.{length}
 use Rattle.general.proofs.Indexed.{length-mapFrom, mapFrom-at}
-use Rattle.protocol.specs.Instance.{Instance, faultOf, proposalOf}
+use Rattle.consensus.specs.Instance.{Instance, faultOf, proposalOf}
 use Rattle.part_format.specs.Start.{startBytes}
 use Rattle.parts.specs.Part.{up, partOf}
 use Rattle.parts.specs.Hearing.{heard}

@@ -3,10 +3,10 @@ use mathlib.Core.List.{List}
 use mathlib.Core.Path.{_≡_}
 use mathlib.Core.Bool.{true}
 use Prim.Native.Nat.{ℕ, suc, _≤_}
-use Rattle.protocol.specs.Instance.{Instance}
-use Rattle.protocol.specs.Round.{undecided, crashed, stateOf}
-use Rattle.protocol.specs.Run.{runTo}
-use Rattle.protocol.specs.Consensus.{IsProcess, Decides, endOf}
+use Rattle.consensus.specs.Instance.{Instance}
+use Rattle.consensus.specs.State.{undecided, crashed, stateOf}
+use Rattle.coordinator.specs.Run.{runTo, endOf}
+use Rattle.consensus.specs.Consensus.{IsProcess, Decides}
 use Rattle.part_format.specs.PartState.{PartState, stateBytes, markOpen, markDecided}
 use Rattle.part_format.specs.Start.{startRefusal}
 use Rattle.part_format.specs.Speak.{speakRefusal}

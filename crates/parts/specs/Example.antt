@@ -3,7 +3,7 @@ use mathlib.Core.List.{List, [], _∷_}
 use mathlib.Core.Path.{_≡_}
 use Prim.Native.Nat.{ℕ}
 use lib.ListN.{take, drop}
-use Rattle.protocol.specs.Instance.{Instance, correct, crashes, duringCommits}
+use Rattle.consensus.specs.Instance.{Instance, correct, crashes, duringCommits}
 use Rattle.part_format.specs.Start.{startRefusal}
 use Rattle.part_format.specs.Speak.{speakRefusal, speakAnswer, speakOutput}
 use Rattle.part_format.specs.Close.{closeRefusal}

@@ -4,9 +4,9 @@ use Prim.Native.Nat.{ℕ, suc}
 use mathlib.Core.Bool.{cond}
 use lib.Dec.{ltb}
 use lib.ListN.{take}
-use Rattle.protocol.specs.Message.{Reach, none, dataOnly, all}
-use Rattle.protocol.specs.Instance.{Instance, faultOf}
-use Rattle.protocol.specs.Delivery.{reachIn}
+use Rattle.coordinator.specs.Message.{Reach, none, dataOnly, all}
+use Rattle.consensus.specs.Instance.{Instance, faultOf}
+use Rattle.coordinator.specs.Delivery.{reachIn}
 use Rattle.parts.specs.Part.{Part, yielded}
 
 -- How many bytes pass: no frame, the data frame, or both frames.

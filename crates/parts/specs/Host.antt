@@ -5,8 +5,8 @@ use Prim.Native.Nat.{ℕ, zero, suc}
 use mathlib.Core.Bool.{cond, _&&_}
 use lib.ListN.{replicate}
 use Rattle.general.specs.Indexed.{mapFrom}
-use Rattle.protocol.specs.Instance.{Instance, Fault, faultOf}
-use Rattle.protocol.specs.Round.{crashesIn}
+use Rattle.consensus.specs.Instance.{Instance, Fault, faultOf}
+use Rattle.consensus.specs.State.{crashesIn}
 use Rattle.part_format.specs.Start.{startBytes}
 use Rattle.part_format.specs.Close.{closeState}
 use Rattle.parts.specs.Part.{Part, up, crashedIn, partOf, isOpen}

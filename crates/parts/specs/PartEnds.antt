@@ -3,9 +3,9 @@ use mathlib.Core.List.{map}
 use Prim.Native.Nat.{ℕ, suc}
 use mathlib.Core.Bool.{cond}
 use lib.Dec.{eqb}
-use Rattle.protocol.specs.Instance.{Instance}
-use Rattle.protocol.specs.Round.{State, undecided, decided, crashed}
-use Rattle.protocol.specs.CrashCount.{crashCount}
+use Rattle.consensus.specs.Instance.{Instance}
+use Rattle.consensus.specs.State.{State, undecided, decided, crashed}
+use Rattle.consensus.specs.CrashCount.{crashCount}
 use Rattle.part_format.specs.PartState.{stateFrom, markDecided}
 use Rattle.parts.specs.Part.{Part, up, crashedIn}
 use Rattle.parts.specs.Host.{partsOf, endPartOf}

@@ -6,8 +6,8 @@ use native.Mathlib.Numerals.{add-one}
 use lib.ListN.{length, getD, take, drop}
 use borrow.Author.Tests.{eq-eqb, ne-eqb}
 use Rattle.general.specs.BigEndian.{number}
-use Rattle.protocol.specs.Message.{Messages, nothing, estimate, estimateAndCommit}
-use Rattle.protocol.specs.Transition.{continues, decides, receives}
+use Rattle.coordinator.specs.Message.{Messages, nothing, estimate, estimateAndCommit}
+use Rattle.coordinator.specs.Transition.{continues, decides, receives}
 use Rattle.part_format.specs.PartState.{PartState, stateBytes, stateFrom, isOwnRound}
 use Rattle.part_format.specs.Close.{stateAfter, closedOn}
 use Rattle.process.proofs.Bytes.{value-from}

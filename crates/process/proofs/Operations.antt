@@ -8,8 +8,8 @@ use lib.ListN.{length, getD, take, drop}
 use lib.Dec.{eqb, ltb}
 use borrow.Author.Tests.{eq-eqb, ne-eqb, lt-ltb, le-ltb}
 use Rattle.general.specs.BigEndian.{number}
-use Rattle.protocol.specs.Message.{estimateAndCommit}
-use Rattle.protocol.specs.Transition.{sends}
+use Rattle.coordinator.specs.Message.{estimateAndCommit}
+use Rattle.coordinator.specs.Transition.{sends}
 use Rattle.part_format.specs.PartState.{identityValid, stateFrom, stateRefusal, isOwnRound}
 use Rattle.part_format.specs.Start.{startRefusal, startBytes}
 use Rattle.part_format.specs.Frame.{framesOf}

@@ -4,7 +4,7 @@ use encoding::layout::number_at;
 use encoding::layout::write_state;
 ghost use mathlib.Core.Path.{_≡_};
 ghost use lib.ListN.{length};
-ghost use Rattle.protocol.specs.Transition.{continues, decides};
+ghost use Rattle.coordinator.specs.Transition.{continues, decides};
 ghost use Rattle.part_format.specs.PartState.{stateFrom, stateBytes};
 ghost use Rattle.part_format.specs.Close.{stateAfter, closedOn};
 ghost use Rattle.process.specs.RoundFits.{RoundFits};

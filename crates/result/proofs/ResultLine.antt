@@ -11,9 +11,9 @@ use lib.Seq.{take-suc, take-all}
 use Rattle.general.specs.BigEndian.{bytesOf}
 use Rattle.general.specs.Indexed.{mapFrom}
 use Rattle.general.proofs.Indexed.{mapFrom-snoc}
-use Rattle.protocol.specs.Round.{State, crashed, stateOf}
-use Rattle.protocol.specs.Run.{Run}
-use Rattle.tables.specs.RunReading.{stateByEnd}
+use Rattle.consensus.specs.State.{State, crashed, stateOf}
+use Rattle.coordinator.specs.Run.{Run}
+use Rattle.tables.specs.RunOfTable.{stateByEnd}
 use Rattle.formats.specs.HexText.{hexLine, lineSize}
 use Rattle.hex.proofs.HexText.{length-hexLine, line-more}
 use Rattle.formats.proofs.ResultLength.{length-line, length-last, length-process-lines}

@@ -7,8 +7,8 @@ use lib.ListN.{length, getD, take, length-take}
 use lib.Seq.{getD-take}
 use Rattle.general.specs.Indexed.{mapFrom}
 use Rattle.general.proofs.Indexed.{length-mapFrom, getD-mapFrom}
-use Rattle.protocol.specs.Round.{crashed, stateOf}
-use Rattle.tables.specs.RunReading.{stateByEnd, stateIn, statesIn, runFrom}
+use Rattle.consensus.specs.State.{crashed, stateOf}
+use Rattle.tables.specs.RunOfTable.{stateByEnd, stateIn, statesIn, runFrom}
 use Rattle.tables.specs.declared.RunTable.{RunTable}
 use Rattle.result.specs.RunOver.{stateOver, statesOver, runOver}
 

@@ -4,9 +4,9 @@ use mathlib.Core.List.{List}
 use Prim.Native.Nat.{ℕ, _-_}
 use lib.ListN.{getD, take}
 use Rattle.general.specs.Indexed.{mapFrom}
-use Rattle.protocol.specs.Round.{State}
-use Rattle.protocol.specs.Run.{Run}
-use Rattle.tables.specs.RunReading.{stateByEnd}
+use Rattle.consensus.specs.State.{State}
+use Rattle.coordinator.specs.Run.{Run}
+use Rattle.tables.specs.RunOfTable.{stateByEnd}
 
 -- The state of process p, of which this is the end.
 unfoldable pub stateOver : (ended values : List ℕ) → ℕ → ℕ → State

@@ -5,7 +5,7 @@ ghost use Prim.Native.Nat.{_*_, _≤_};
 ghost use lib.ListN.{length, drop};
 ghost use Rattle.general.specs.BigEndian.{bytesOf};
 ghost use Rattle.general.specs.Indexed.{mapFrom};
-ghost use Rattle.tables.specs.RunReading.{stateByEnd};
+ghost use Rattle.tables.specs.RunOfTable.{stateByEnd};
 ghost use Rattle.formats.specs.ResultLine.{endBytes, processLine, processLineSize, joined, resultLines, resultSize, refusalLine, refusalLineSize};
 ghost use Rattle.result.specs.RunOver.{statesOver, runOver};
 

@@ -5,13 +5,14 @@ use Prim.Native.Nat.{ℕ}
 use native.Mathlib.Omega.{arith}
 use lib.Dec.{eqb}
 use borrow.Author.Tests.{eqb-true}
-use Rattle.protocol.specs.Message.{Messages, nothing, Reach, none, dataOnly, all, arriving, getsData, getsCommit}
-use Rattle.protocol.specs.Instance.{Fault}
-use Rattle.protocol.specs.Transition.{sends, receives}
-use Rattle.protocol.specs.Round.{State, undecided, decided, crashed, sentBy, crashesIn, afterOutcome, after}
-use Rattle.protocol.specs.Undecided.{isUndecided}
-use Rattle.protocol.proofs.Ended.{after-ended}
-use Rattle.tables.specs.RunReading.{stateByEnd}
+use Rattle.coordinator.specs.Message.{Messages, nothing, Reach, none, dataOnly, all, arriving, getsData, getsCommit}
+use Rattle.consensus.specs.Instance.{Fault}
+use Rattle.coordinator.specs.Transition.{sends, receives}
+use Rattle.consensus.specs.State.{State, undecided, decided, crashed, crashesIn}
+use Rattle.coordinator.specs.Round.{sentBy, afterOutcome, after}
+use Rattle.coordinator.specs.Undecided.{isUndecided}
+use Rattle.coordinator.proofs.Ended.{after-ended}
+use Rattle.tables.specs.RunOfTable.{stateByEnd}
 
 -- An end of 0 is that of a process up and undecided, and what such a process sends in its round.
 module _ (end ended value : ℕ) where

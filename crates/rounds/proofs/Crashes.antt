@@ -5,16 +5,16 @@ use Prim.Native.Nat.{ℕ, suc, _+_, _-_, _≤_, _<_}
 use native.Mathlib.Omega.{arith}
 use lib.ListN.{length, getD, drop, drop-of-length-le}
 use lib.Seq.{drop-cons}
-use Rattle.protocol.specs.Instance.{Fault, correct, faultOf}
-use Rattle.protocol.specs.Round.{State, crashed, stateOf}
-use Rattle.protocol.specs.CrashCount.{countsAsCrash, crashCount}
-use Rattle.protocol.proofs.CrashCount.{counts-once}
+use Rattle.consensus.specs.Instance.{Fault, correct, faultOf}
+use Rattle.consensus.specs.State.{State, crashed, stateOf}
+use Rattle.consensus.specs.CrashCount.{countsAsCrash, crashCount}
+use Rattle.consensus.proofs.CrashCount.{counts-once}
 use Rattle.tables.specs.declared.InstanceTable.{InstanceTable}
 use Rattle.tables.specs.declared.RunTable.{RunTable}
-use Rattle.tables.specs.InstanceReading.{faultFrom, instanceOf}
-use Rattle.tables.specs.RunReading.{stateByEnd, statesIn}
+use Rattle.tables.specs.InstanceOfTable.{faultFrom, instanceOf}
+use Rattle.tables.specs.RunOfTable.{stateByEnd, statesIn}
 use Rattle.tables.proofs.Places.{length-pattern, length-statesIn, fault-at, state-in}
-use Rattle.transitions.proofs.Counting.{by-round-and-end}
+use Rattle.coordinator_sending.proofs.Counting.{by-round-and-end}
 
 -- The faults and the states from process p on.
 abbrev restCount : List Fault → List State → ℕ → ℕ

@@ -13,22 +13,23 @@ use Rattle.general.proofs.Bits.{ones64-members}
 use Rattle.general.proofs.Indexed.{length-mapFrom}
 use Rattle.general.proofs.Sets.{member-set, set-size}
 use Rattle.general.proofs.Tests.{cond-le}
-use Rattle.protocol.specs.Message.{Reach, none, nothing, arriving, getsData, getsCommit}
-use Rattle.protocol.specs.Transition.{sends}
-use Rattle.protocol.specs.Instance.{Instance, Fault, faultOf}
-use Rattle.protocol.specs.Delivery.{reach}
-use Rattle.protocol.specs.Round.{State, stateOf, crashesIn, received, statesAfter}
-use Rattle.protocol.specs.Undecided.{isUndecided}
-use Rattle.protocol.specs.Count.{speaks, dataIn, commitsIn}
-use Rattle.protocol.specs.CountsReached.{reachedIn, CountedAsReached}
-use Rattle.protocol.specs.Run.{withRound}
-use Rattle.protocol.proofs.CountsReached.{counts-reached}
-use Rattle.protocol.proofs.Pointwise.{receivedIn, states-ext, round-state}
+use Rattle.coordinator.specs.Message.{Reach, none, nothing, arriving, getsData, getsCommit}
+use Rattle.coordinator.specs.Transition.{sends}
+use Rattle.consensus.specs.Instance.{Instance, Fault, faultOf}
+use Rattle.coordinator.specs.Delivery.{reach}
+use Rattle.consensus.specs.State.{State, stateOf, crashesIn}
+use Rattle.coordinator.specs.Round.{received, statesAfter}
+use Rattle.coordinator.specs.Undecided.{isUndecided}
+use Rattle.coordinator.specs.Count.{speaks, dataIn, commitsIn}
+use Rattle.coordinator.specs.CountsReached.{reachedIn, CountedAsReached}
+use Rattle.coordinator.specs.Run.{withRound}
+use Rattle.coordinator.proofs.CountsReached.{counts-reached}
+use Rattle.coordinator.proofs.Pointwise.{receivedIn, states-ext, round-state}
 use Rattle.tables.specs.declared.RunTable.{RunTable}
-use Rattle.tables.specs.RunReading.{statesIn, runFrom}
+use Rattle.tables.specs.RunOfTable.{statesIn, runFrom}
 use Rattle.tables.proofs.Places.{state-in, length-statesIn}
-use Rattle.transitions.specs.declared.Sent.{Sent}
-use Rattle.transitions.specs.Sending.{sendingBy}
+use Rattle.coordinator_sending.specs.declared.Sent.{Sent}
+use Rattle.coordinator_sending.specs.Sending.{sendingBy}
 use Rattle.rounds.specs.Round.{RoundAllowed, RoundOf, RoundRun}
 use Rattle.rounds.proofs.Becoming.{undecided-end, sent-by-end, becomes}
 use Rattle.rounds.proofs.Stored.{Sized, Stored, sized-next, waits-as, state-after, kept-after}

@@ -10,16 +10,16 @@ use lib.ListN.{length, getD}
 use Rattle.general.specs.Bits.{member, membersTo, setOf, filled}
 use Rattle.general.proofs.Sets.{member-and, member-or, member-xor, member-none, member-set, set-within, is-set}
 use Rattle.general.proofs.Filling.{length-filled, filled-at}
-use Rattle.protocol.specs.Message.{Reach}
-use Rattle.protocol.specs.Instance.{Fault}
-use Rattle.protocol.specs.Delivery.{reach}
-use Rattle.protocol.specs.Round.{State, stateOf}
-use Rattle.protocol.specs.Undecided.{isUndecided}
+use Rattle.coordinator.specs.Message.{Reach}
+use Rattle.consensus.specs.Instance.{Fault}
+use Rattle.coordinator.specs.Delivery.{reach}
+use Rattle.consensus.specs.State.{State, stateOf}
+use Rattle.coordinator.specs.Undecided.{isUndecided}
 use Rattle.tables.specs.declared.RunTable.{RunTable}
-use Rattle.tables.specs.RunReading.{statesIn}
+use Rattle.tables.specs.RunOfTable.{statesIn}
 use Rattle.tables.proofs.Places.{state-in}
-use Rattle.transitions.specs.declared.Sent.{Sent}
-use Rattle.transitions.specs.Sending.{sendingBy}
+use Rattle.coordinator_sending.specs.declared.Sent.{Sent}
+use Rattle.coordinator_sending.specs.Sending.{sendingBy}
 use Rattle.rounds.specs.Round.{undecidedSet, RoundAllowed}
 use Rattle.rounds.proofs.Becoming.{undecided-end, lives, decides, adopts, storedState, still-undecided}
 

@@ -9,21 +9,21 @@ use lib.Seq.{getD-take, length-take-le}
 use Rattle.general.specs.Bits.{member}
 use Rattle.general.proofs.Indexed.{length-mapFrom}
 use Rattle.general.proofs.Sets.{member-none, member-set, first-set, set-same, set-empty}
-use Rattle.protocol.specs.Instance.{Fault, faultOf, proposalOf}
-use Rattle.protocol.specs.Round.{undecided, stateOf}
-use Rattle.protocol.specs.Undecided.{isUndecided, anyUndecided}
-use Rattle.protocol.specs.Run.{Run, initial, runTo, runOf}
-use Rattle.protocol.specs.WellFormed.{WellFormed}
-use Rattle.protocol.proofs.Pointwise.{states-ext, length-states, initial-state}
-use Rattle.protocol.proofs.Undecided.{none-undecided, not-any}
-use Rattle.protocol.proofs.Ended.{run-ended}
-use Rattle.protocol.proofs.Counts.{speakers-le, data-sent-le, commits-sent-le}
+use Rattle.consensus.specs.Instance.{Fault, faultOf, proposalOf}
+use Rattle.consensus.specs.State.{undecided, stateOf}
+use Rattle.coordinator.specs.Undecided.{isUndecided, anyUndecided}
+use Rattle.coordinator.specs.Run.{Run, initial, runTo, runOf}
+use Rattle.coordinator.specs.WellFormed.{WellFormed}
+use Rattle.coordinator.proofs.Pointwise.{states-ext, length-states, initial-state}
+use Rattle.coordinator.proofs.Undecided.{none-undecided, not-any}
+use Rattle.coordinator.proofs.Ended.{run-ended}
+use Rattle.coordinator.proofs.Counts.{speakers-le, data-sent-le, commits-sent-le}
 use Rattle.tables.specs.declared.InstanceTable.{InstanceTable}
 use Rattle.tables.specs.declared.RunTable.{RunTable}
-use Rattle.tables.specs.InstanceReading.{faultFrom, instanceOf}
-use Rattle.tables.specs.RunReading.{stateByEnd, stateIn, statesIn, runFrom}
+use Rattle.tables.specs.InstanceOfTable.{faultFrom, instanceOf}
+use Rattle.tables.specs.RunOfTable.{stateByEnd, stateIn, statesIn, runFrom}
 use Rattle.tables.proofs.Places.{processes-of, resilience-of, fault-at, state-in, length-statesIn}
-use Rattle.transitions.proofs.Cases.{crashes-by-round, round-within}
+use Rattle.coordinator_sending.proofs.Cases.{crashes-by-round, round-within}
 use Rattle.rounds.specs.CrashSets.{CrashRounds, CrashSets}
 use Rattle.rounds.specs.Round.{undecidedSet, RoundAllowed, RoundOf, RoundRun}
 use Rattle.rounds.proofs.Reading.{limits}

@@ -3,14 +3,14 @@ use mathlib.Core.Path.{_≡_}
 use Prim.Native.Nat.{ℕ, _<_}
 use mathlib.Core.Bool.{true}
 use Rattle.general.specs.Bits.{setOf}
-use Rattle.protocol.specs.Instance.{Instance, Fault, faultOf}
-use Rattle.protocol.specs.Round.{stateOf, crashesIn}
-use Rattle.protocol.specs.Undecided.{isUndecided, anyUndecided}
-use Rattle.protocol.specs.Run.{withRound}
-use Rattle.protocol.specs.WellFormed.{WellFormed}
+use Rattle.consensus.specs.Instance.{Instance, Fault, faultOf}
+use Rattle.consensus.specs.State.{stateOf, crashesIn}
+use Rattle.coordinator.specs.Undecided.{isUndecided, anyUndecided}
+use Rattle.coordinator.specs.Run.{withRound}
+use Rattle.coordinator.specs.WellFormed.{WellFormed}
 use Rattle.tables.specs.declared.RunTable.{RunTable}
-use Rattle.tables.specs.RunReading.{statesIn, runFrom}
-use Rattle.transitions.specs.Sending.{SendingAllowed}
+use Rattle.tables.specs.RunOfTable.{statesIn, runFrom}
+use Rattle.coordinator_sending.specs.Sending.{SendingAllowed}
 
 -- The set of the processes up and undecided, by the arrays of a table.
 abbrev pub undecidedSet : ℕ → RunTable → ℕ

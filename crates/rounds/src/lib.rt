@@ -2,16 +2,16 @@
 // The instance and the run are tables by value; the run goes through each round and comes back.
 ghost use mathlib.Core.Path.{_≡_};
 ghost use Prim.Native.Nat.{_≤_};
-ghost use Rattle.protocol.specs.CrashCount.{crashCount};
-ghost use Rattle.protocol.specs.Run.{runOf};
-ghost use Rattle.protocol.specs.WellFormed.{WellFormed};
-ghost use Rattle.tables.specs.InstanceReading.{faultFrom, instanceOf};
-ghost use Rattle.tables.specs.RunReading.{statesIn, runFrom};
+ghost use Rattle.consensus.specs.CrashCount.{crashCount};
+ghost use Rattle.coordinator.specs.Run.{runOf};
+ghost use Rattle.coordinator.specs.WellFormed.{WellFormed};
+ghost use Rattle.tables.specs.InstanceOfTable.{faultFrom, instanceOf};
+ghost use Rattle.tables.specs.RunOfTable.{statesIn, runFrom};
 ghost use Rattle.rounds.specs.Round.{RoundAllowed, RoundRun};
 ghost use Rattle.rounds.specs.CrashSets.{CrashRounds, CrashSets};
 use tables::InstanceTable;
 use tables::RunTable;
-use transitions::count;
+use coordinator_sending::count;
 
 // The sets of the processes that have the same crash round, that of round r at place r - 1.
 fn crash_sets(rounds: &[u8; 64], n: u8) -> [u64; 64]
@@ -48,7 +48,7 @@ pub fn run_round(
 {
     let mut next = run;
     let value = next.values[(r - 1) as usize];
-    let sent = transitions::sending(n, r, round, step, set, count, next.undecided);
+    let sent = coordinator_sending::sending(n, r, round, step, set, count, next.undecided);
     let crashing = next.undecided & dying;
     let live = next.undecided ^ crashing;
     let deciding = live & (sent.coordinator | sent.committed);

@@ -7,16 +7,16 @@ use borrow.Author.Tests.{lt-ltb, le-ltb, ltb-true, ltb-false}
 use mathlib.Core.Bool.{Bool, true, false}
 use lib.Dec.{ltb}
 use lib.ListN.{length, drop}
-use Rattle.protocol.specs.Instance.{Instance}
-use Rattle.protocol.specs.CrashCount.{crashCount}
-use Rattle.protocol.specs.Run.{Run, runOf, crashesOf}
-use Rattle.protocol.specs.WellFormed.{WellFormed}
-use Rattle.protocol.specs.Settling.{qualifies}
-use Rattle.protocol.proofs.Settled.{settled-at-last}
-use Rattle.tables.specs.InstanceReading.{instanceOf}
+use Rattle.consensus.specs.Instance.{Instance}
+use Rattle.consensus.specs.CrashCount.{crashCount}
+use Rattle.coordinator.specs.Run.{Run, runOf, crashesOf}
+use Rattle.coordinator.specs.WellFormed.{WellFormed}
+use Rattle.coordinator.specs.Settling.{qualifies}
+use Rattle.coordinator.proofs.Settled.{settled-at-last}
+use Rattle.tables.specs.InstanceOfTable.{instanceOf}
 use Rattle.tables.specs.declared.InstanceTable.{InstanceTable}
 use Rattle.tables.specs.declared.RunTable.{RunTable}
-use Rattle.tables.specs.RunReading.{runFrom, statesIn}
+use Rattle.tables.specs.RunOfTable.{runFrom, statesIn}
 use Rattle.formats.specs.Reading.{Reading, accepted, refused}
 use Rattle.formats.specs.Ticket.{readTicket}
 use Rattle.ticket.specs.Answer.{readingFrom, readingOf}

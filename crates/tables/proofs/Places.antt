@@ -7,12 +7,12 @@ use lib.ListN.{length, getD, take, length-take}
 use lib.Seq.{getD-take}
 use Rattle.general.specs.Indexed.{mapFrom}
 use Rattle.general.proofs.Indexed.{length-mapFrom, mapFrom-at}
-use Rattle.protocol.specs.Instance.{correct, faultOf}
-use Rattle.protocol.specs.Round.{crashed, stateOf}
+use Rattle.consensus.specs.Instance.{correct, faultOf}
+use Rattle.consensus.specs.State.{crashed, stateOf}
 use Rattle.tables.specs.declared.InstanceTable.{InstanceTable}
 use Rattle.tables.specs.declared.RunTable.{RunTable}
-use Rattle.tables.specs.InstanceReading.{faultFrom, faultIn, instanceOf}
-use Rattle.tables.specs.RunReading.{stateByEnd, stateIn, statesIn}
+use Rattle.tables.specs.InstanceOfTable.{faultFrom, faultIn, instanceOf}
+use Rattle.tables.specs.RunOfTable.{stateByEnd, stateIn, statesIn}
 
 -- How many processes a table has, and how many may crash.
 pub processes-of : (x : InstanceTable) → instanceOf x .processes ≡ x .n

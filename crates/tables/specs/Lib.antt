@@ -1,2 +1,2 @@
-pub mod InstanceReading
-pub mod RunReading
+pub mod InstanceOfTable
+pub mod RunOfTable

@@ -7,8 +7,8 @@ use lib.ListN.{length, getD, take, set, length-set}
 use lib.Seq.{getD-set-same, getD-set-other, ext-getD}
 use borrow.Author.Tests.{ne-eqb}
 use Rattle.general.proofs.Tests.{by-equal}
-use Rattle.protocol.specs.Instance.{Fault, correct, faultOf}
-use Rattle.tables.specs.InstanceReading.{faultFrom, instanceOf}
+use Rattle.consensus.specs.Instance.{Fault, correct, faultOf}
+use Rattle.tables.specs.InstanceOfTable.{faultFrom, instanceOf}
 use Rattle.tables.specs.declared.InstanceTable.{InstanceTable}
 use Rattle.tables.proofs.Places.{length-pattern, fault-at}
 use Rattle.formats.specs.declared.FailureLine.{FailureLine}

@@ -6,7 +6,7 @@ use Prim.Native.Nat.{ℕ, _≤_, _<_}
 use native.Mathlib.Omega.{arith}
 use borrow.Author.Tests.{lt-ltb, le-ltb}
 use lib.ListN.{length, getD, drop}
-use Rattle.protocol.specs.Instance.{withinLimits}
+use Rattle.consensus.specs.Instance.{withinLimits}
 use Rattle.formats.specs.Line.{linesOf}
 use Rattle.formats.specs.Reading.{refused, proceed, readFrom}
 use Rattle.formats.specs.Says.{headerSays}
@@ -20,7 +20,7 @@ use Rattle.lines.specs.Read.{readAt}
 use Rattle.lines.specs.declared.Cursor.{Cursor}
 use Rattle.lines.specs.declared.LineRead.the-variants.{NoLine}
 use Rattle.lines.proofs.Read.{LineAt, read-no-line, lines-at-end}
-use Rattle.kinds.proofs.Whole.{header-words}
+use Rattle.ticket_lines.proofs.Whole.{header-words}
 use Rattle.ticket.specs.Header.{AfterHeader}
 
 pub too-long : (text : List ℕ) → ticketLimit < length text → readTicket text ≡ refused 1 0

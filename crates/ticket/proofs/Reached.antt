@@ -8,9 +8,9 @@ use mathlib.Core.Bool.{Bool, true, false, cond}
 use borrow.Author.Tests.{eqb-false}
 use lib.Dec.{eqb}
 use lib.ListN.{length, drop, replicate, length-set}
-use Rattle.protocol.specs.Instance.{Instance}
-use Rattle.protocol.proofs.Limits.{limits-hold}
-use Rattle.tables.specs.InstanceReading.{instanceOf}
+use Rattle.consensus.specs.Instance.{Instance}
+use Rattle.consensus.proofs.Limits.{limits-hold}
+use Rattle.tables.specs.InstanceOfTable.{instanceOf}
 use Rattle.tables.specs.declared.InstanceTable.{InstanceTable}
 use Rattle.formats.specs.Line.{linesOf}
 use Rattle.formats.specs.Reading.{refused, proceed, readFrom}
@@ -27,8 +27,8 @@ use Rattle.lines.specs.Read.{readAt}
 use Rattle.lines.specs.declared.Cursor.{Cursor}
 use Rattle.lines.specs.declared.LineRead.the-variants.{NoLine}
 use Rattle.lines.proofs.Read.{LineAt, read-no-line, lines-at-end}
-use Rattle.kinds.specs.Places.{HasPlaces}
-use Rattle.kinds.proofs.Whole.{line-words}
+use Rattle.ticket_lines.specs.Places.{HasPlaces}
+use Rattle.ticket_lines.proofs.Whole.{line-words}
 use Rattle.ticket.specs.Header.{AfterHeader}
 use Rattle.ticket.specs.Answer.{readingFrom}
 use Rattle.ticket.specs.declared.Answer.{Answer}

@@ -9,8 +9,8 @@ use lib.Seq.{take-suc-set}
 use borrow.Author.Tests.{eqb-true}
 use Rattle.general.specs.Indexed.{mapFrom}
 use Rattle.general.proofs.Lists.{take-replicate}
-use Rattle.protocol.specs.Instance.{Fault, correct}
-use Rattle.tables.specs.InstanceReading.{faultFrom, faultIn, instanceOf}
+use Rattle.consensus.specs.Instance.{Fault, correct}
+use Rattle.tables.specs.InstanceOfTable.{faultFrom, faultIn, instanceOf}
 use Rattle.tables.specs.declared.InstanceTable.{InstanceTable}
 use Rattle.formats.specs.Says.{afterProposal}
 use Rattle.formats.specs.Accept.{unproposed, withProposal}

@@ -1,6 +1,6 @@
 -- What an answer to a ticket stands for: document 01's numbers for each of its cases.
-use Rattle.protocol.specs.Instance.{Instance}
-use Rattle.tables.specs.InstanceReading.{instanceOf}
+use Rattle.consensus.specs.Instance.{Instance}
+use Rattle.tables.specs.InstanceOfTable.{instanceOf}
 use Rattle.tables.specs.declared.InstanceTable.{InstanceTable}
 use Rattle.formats.specs.Reading.{Reading, accepted, refused}
 use Rattle.ticket.specs.declared.Answer.{Answer}

@@ -4,7 +4,7 @@ use mathlib.Core.Path.{_≡_}
 use mathlib.Core.Bool.{true}
 use Prim.Native.Nat.{ℕ, _≤_}
 use lib.ListN.{length, drop}
-use Rattle.protocol.specs.Instance.{withinLimits}
+use Rattle.consensus.specs.Instance.{withinLimits}
 use Rattle.formats.specs.Line.{linesOf}
 use Rattle.formats.specs.Reading.{refused, readFrom}
 use Rattle.formats.specs.Accept.{body, unproposed, accept}

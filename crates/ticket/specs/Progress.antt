@@ -1,8 +1,8 @@
 -- For the code alone: the stage of a ticket that its place and its table stand for, and what a text that is over is answered with.
 use Prim.Native.Nat.{ℕ}
 use lib.ListN.{take}
-use Rattle.protocol.specs.Instance.{Instance}
-use Rattle.tables.specs.InstanceReading.{instanceOf}
+use Rattle.consensus.specs.Instance.{Instance}
+use Rattle.tables.specs.InstanceOfTable.{instanceOf}
 use Rattle.tables.specs.declared.InstanceTable.{InstanceTable}
 use Rattle.formats.specs.Accept.{Stage, body}
 use Rattle.formats.specs.declared.Place.{Place}

@@ -52,7 +52,7 @@ pub fn read_header(text: &[u8]) -> HeaderRead
     else {
         return HeaderRead::Refused(2, 1);
     };
-    let answer = kinds::header_line(size, head, tail);
+    let answer = ticket_lines::header_line(size, head, tail);
     match answer {
         HeaderAnswer::Limits(n, t) => HeaderRead::Limits(n, t, next.at),
         HeaderAnswer::Refused(number) => HeaderRead::Refused(number, 1),
@@ -99,7 +99,7 @@ pub fn read_rest(text: &[u8], n: u8, t: u8, at: usize) -> TicketRead
         else {
             break Answer::Refused(2, k);
         };
-        match kinds::accept_line(size, head, tail, place, table.n, table.t) {
+        match ticket_lines::accept_line(size, head, tail, place, table.n, table.t) {
             LineAnswer::Proposal(count, value, to) => {
                 table.values[count as usize] = value;
                 place = to;

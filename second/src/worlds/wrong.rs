@@ -18,12 +18,12 @@ const fn world(name: &'static str, breaks: &'static [Claim], rules: Rules) -> Wo
 /// Failure patterns that are not accepted.
 const PATTERNS: &[World] = &[
     world(
-        "protocol/one-crash-too-many",
+        "consensus/one-crash-too-many",
         &[Termination, LastRoundSettles],
         Rules { most_failures: |t| t + 1, ..RIGHT },
     ),
     world(
-        "protocol/commit-line-of-another-round",
+        "coordinator/commit-line-of-another-round",
         &[NoLater],
         Rules { commit_step_in: |_, _| true, ..RIGHT },
     ),
@@ -32,7 +32,7 @@ const PATTERNS: &[World] = &[
 /// Other rounds.
 const ROUNDS: &[World] = &[
     world(
-        "protocol/adopts-a-value-nobody-proposed",
+        "coordinator/adopts-a-value-nobody-proposed",
         &[Validity, Agreement, NoLater, LastRoundSettles],
         Rules {
             receives: |step| match step.heard {
@@ -43,7 +43,7 @@ const ROUNDS: &[World] = &[
         },
     ),
     world(
-        "protocol/commits-leave-before-the-data",
+        "coordinator/commits-leave-before-the-data",
         &[Agreement, NoLater, CountsReached, LastRoundSettles],
         Rules {
             reach_of_crashing: |sending, crash, to| match right::reach_of_crashing(
@@ -56,7 +56,7 @@ const ROUNDS: &[World] = &[
         },
     ),
     world(
-        "protocol/commits-only-above-the-count",
+        "coordinator/commits-only-above-the-count",
         &[NoLater, MessagesWithinBound, CountsReached],
         Rules {
             reach_of_crashing: |sending, crash, to| {
@@ -66,7 +66,7 @@ const ROUNDS: &[World] = &[
         },
     ),
     world(
-        "protocol/coordinator-waits-on",
+        "coordinator/coordinator-waits-on",
         &[Termination],
         Rules {
             receives: |step| match right::receives(step) {
@@ -77,17 +77,17 @@ const ROUNDS: &[World] = &[
         },
     ),
     world(
-        "protocol/decides-in-the-round-of-its-crash",
+        "coordinator/decides-in-the-round-of-its-crash",
         &[Agreement, CrashesAsSaid, CountsCrashed, LastRoundSettles],
         Rules { crashes: |step| step.decides(step.estimate), ..RIGHT },
     ),
     world(
-        "protocol/fault-of-another-round-cuts-commits",
+        "coordinator/fault-of-another-round-cuts-commits",
         &[EarlyDecision, SpeakersWithinBound, MessagesWithinBound, CountsReached],
         Rules { reach_in_another_round: Reach::Data, ..RIGHT },
     ),
     world(
-        "protocol/one-round-too-few",
+        "coordinator/one-round-too-few",
         &[Termination, LastRoundSettles],
         Rules { last_round: |t| t, ..RIGHT },
     ),
@@ -96,7 +96,7 @@ const ROUNDS: &[World] = &[
 /// Document 01's five mistakes.
 const MISTAKES: &[World] = &[
     world(
-        "protocol/commits-go-upward",
+        "coordinator/commits-go-upward",
         &[Termination, EarlyDecision, NoLater],
         Rules {
             reach_of_crashing: |sending, crash, to| {
@@ -106,7 +106,7 @@ const MISTAKES: &[World] = &[
         },
     ),
     world(
-        "protocol/decides-on-data-alone",
+        "coordinator/decides-on-data-alone",
         &[Agreement, Termination, EarlyDecision, LastRoundSettles],
         Rules {
             receives: |step| match step.heard {
@@ -117,17 +117,17 @@ const MISTAKES: &[World] = &[
         },
     ),
     world(
-        "protocol/crashed-left-out-of-the-commit-list",
+        "coordinator/crashed-left-out-of-the-commit-list",
         &[NoLater],
         Rules { commit_list: |sending, to| sending.n - crashed_above(sending, to), ..RIGHT },
     ),
     world(
-        "protocol/idle-lines-counted-in-f",
+        "consensus/idle-lines-counted-in-f",
         &[CountsCrashed, RefusesImpostors],
         Rules { counts_as_crash: |_| true, ..RIGHT },
     ),
     world(
-        "protocol/hears-in-the-round-of-its-crash",
+        "coordinator/hears-in-the-round-of-its-crash",
         &[CrashesAsSaid, CountsCrashed],
         Rules {
             crashes: |step| match step.heard {
@@ -255,12 +255,12 @@ fn value_or_zero(state: State) -> u32 {
 /// Other counts.
 const COUNTS: &[World] = &[
     world(
-        "protocol/crashed-process-not-counted-in-f",
+        "consensus/crashed-process-not-counted-in-f",
         &[EarlyDecision, Termination, CrashesAsSaid, CountsCrashed, SpeakersWithinBound],
         Rules { is_idle: |round, end| has_crashed(end) || right::is_idle(round, end), ..RIGHT },
     ),
     world(
-        "protocol/decided-processes-keep-the-run-going",
+        "coordinator/decided-processes-keep-the-run-going",
         &[CountsRounds, CountsSpeakers, SpeakersWithinBound, MessagesWithinBound],
         Rules {
             is_undecided: |state| !has_crashed(state),
@@ -269,22 +269,22 @@ const COUNTS: &[World] = &[
         },
     ),
     world(
-        "protocol/silent-coordinators-count-as-speakers",
+        "coordinator/silent-coordinators-count-as-speakers",
         &[SpeakersWithinBound, MessagesWithinBound, CountsSpeakers],
         Rules { speaks: |_| true, ..RIGHT },
     ),
     world(
-        "protocol/rounds-counted-after-the-end",
+        "coordinator/rounds-counted-after-the-end",
         &[CountsRounds],
         Rules { round_counts: |_, _| true, ..RIGHT },
     ),
     world(
-        "protocol/silent-rounds-not-counted",
+        "coordinator/silent-rounds-not-counted",
         &[CountsRounds],
         Rules { round_counts: |_, speaks| speaks, ..RIGHT },
     ),
     world(
-        "protocol/data-counted-as-the-set-itself",
+        "coordinator/data-counted-as-the-set-itself",
         &[MessagesWithinBound, CountsReached],
         Rules {
             data_sent: |n, round, crash| match crash {
@@ -295,7 +295,7 @@ const COUNTS: &[World] = &[
         },
     ),
     world(
-        "protocol/unsent-data-counted",
+        "coordinator/unsent-data-counted",
         &[CountsReached],
         Rules {
             data_sent: |n, round, crash| match crash {
@@ -306,7 +306,7 @@ const COUNTS: &[World] = &[
         },
     ),
     world(
-        "protocol/data-counted-as-the-commits",
+        "coordinator/data-counted-as-the-commits",
         &[CountsReached],
         Rules {
             data_sent: |n, round, crash| match crash {
@@ -317,7 +317,7 @@ const COUNTS: &[World] = &[
         },
     ),
     world(
-        "protocol/unsent-commits-counted",
+        "coordinator/unsent-commits-counted",
         &[MessagesWithinBound, CountsReached],
         Rules {
             commits_sent: |n, round, crash| match crash {
@@ -374,7 +374,7 @@ fn has_crashed(state: State) -> bool {
 /// Other rounds that qualify for settling.
 const SETTLING: &[World] = &[
     world(
-        "protocol/crashed-processes-hold-values",
+        "coordinator/crashed-processes-hold-values",
         &[LastRoundSettles],
         Rules {
             value_held: |state, _| match state {
@@ -385,17 +385,17 @@ const SETTLING: &[World] = &[
         },
     ),
     world(
-        "protocol/settled-as-the-round-begins",
+        "coordinator/settled-as-the-round-begins",
         &[LastRoundSettles],
         Rules { settled_at_end_of: |round| round.saturating_sub(1), ..RIGHT },
     ),
     world(
-        "protocol/every-round-settles",
+        "coordinator/every-round-settles",
         &[WorkedRun("case 5")],
         Rules { one_value: |_| true, ..RIGHT },
     ),
     world(
-        "protocol/settled-by-the-decided-alone",
+        "coordinator/settled-by-the-decided-alone",
         &[WorkedRun("case 5")],
         Rules {
             value_held: |state, _| match state {
@@ -406,7 +406,7 @@ const SETTLING: &[World] = &[
         },
     ),
     world(
-        "protocol/settled-by-who-never-crashes",
+        "coordinator/settled-by-who-never-crashes",
         &[WorkedRun("one crashes later")],
         Rules {
             value_held: |state, crashes| right::value_held(state).filter(|_| !crashes),
@@ -414,12 +414,12 @@ const SETTLING: &[World] = &[
         },
     ),
     world(
-        "protocol/round-0-settles",
+        "coordinator/round-0-settles",
         &[WorkedRun("case 2")],
         Rules { may_settle: |round, rounds, _| round <= rounds, ..RIGHT },
     ),
     world(
-        "protocol/settles-after-the-end",
+        "coordinator/settles-after-the-end",
         &[WorkedRun("case 1")],
         Rules { may_settle: |round, _, last| 1 <= round && round <= last, ..RIGHT },
     ),
@@ -439,32 +439,32 @@ const CLAIMED: &[World] = &[
         Rules { f_of_crashed: |crashed| crashed + 1, ..RIGHT },
     ),
     world(
-        "protocol/one-round-more-to-decide",
+        "coordinator/one-round-more-to-decide",
         &[WorkedRun("case 1")],
         Rules { latest: |f| f + 2, ..RIGHT },
     ),
     world(
-        "protocol/decides-after-the-latest",
+        "consensus/decides-after-the-latest",
         &[RefusesImpostors],
         Rules { decides_by: |round, latest| round <= latest + 1, ..RIGHT },
     ),
     world(
-        "protocol/f-of-the-process-after",
+        "consensus/f-of-the-process-after",
         &[CountsLines, CountsCrashed],
         Rules { ends_from: 2, ..RIGHT },
     ),
     world(
-        "protocol/speakers-at-most-f",
+        "coordinator/speakers-at-most-f",
         &[SpeakersWithinBound],
         Rules { most_speakers: |f| u64::from(f), ..RIGHT },
     ),
     world(
-        "protocol/bound-too-low",
+        "coordinator/bound-too-low",
         &[MessagesWithinBound],
         Rules { most_messages: |run| (RIGHT.most_messages)(run).saturating_sub(1), ..RIGHT },
     ),
     world(
-        "protocol/bound-too-high",
+        "coordinator/bound-too-high",
         &[WorkedRun("case 1")],
         Rules { most_messages: |run| (RIGHT.most_messages)(run) + 1, ..RIGHT },
     ),
@@ -486,12 +486,12 @@ fn bound_of_theorem_2(n: u64, f: u64) -> u64 {
 /// Other pairs of tickets.
 const PAIRED: &[World] = &[
     world(
-        "protocol/fewer-commits-in-the-second",
+        "coordinator/fewer-commits-in-the-second",
         &[NoLater],
         Rules { counts_paired: |first, second| second <= first, ..RIGHT },
     ),
     world(
-        "protocol/data-line-missing-in-the-second",
+        "coordinator/data-line-missing-in-the-second",
         &[NoLater],
         Rules {
             line_in_one: |first, second| {
@@ -501,7 +501,7 @@ const PAIRED: &[World] = &[
         },
     ),
     world(
-        "protocol/line-more-in-the-second",
+        "coordinator/line-more-in-the-second",
         &[NoLater],
         Rules {
             line_in_one: |first, second| first.is_none() && right::is_commit_line(second),
@@ -509,12 +509,12 @@ const PAIRED: &[World] = &[
         },
     ),
     world(
-        "protocol/proposals-differ-in-the-second",
+        "coordinator/proposals-differ-in-the-second",
         &[NoLater],
         Rules { proposals_differ: true, ..RIGHT },
     ),
     world(
-        "protocol/strictly-earlier-in-the-second",
+        "consensus/strictly-earlier-in-the-second",
         &[NoLater],
         Rules { no_later: |first, second| second < first, ..RIGHT },
     ),

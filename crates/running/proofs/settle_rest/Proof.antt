@@ -1,7 +1,7 @@
 -- `running::settle_rest` meets its contract: each answer is a law of Answers, at what reading the rest of the ticket ensures. Assumes nothing.
 use mathlib.Core.Path.{_≡_}
 use borrow.Author.Needs.{needs}
-use Rattle.tables.specs.InstanceReading.{instanceOf}
+use Rattle.tables.specs.InstanceOfTable.{instanceOf}
 use Rattle.formats.specs.Reading.{accepted}
 use Rattle.formats.specs.Ticket.{readTicket}
 use Rattle.formats.proofs.WellFormed.{accepted-well-formed}

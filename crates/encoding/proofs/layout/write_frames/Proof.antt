@@ -5,7 +5,7 @@ use Prim.Native.Nat.{_≤_}
 use mathlib.Core.Path.{_≡_, _∙_}
 use lib.ListN.{length, length-set}
 use Rattle.general.specs.BigEndian.{bytesOf}
-use Rattle.protocol.specs.Message.{estimateAndCommit}
+use Rattle.coordinator.specs.Message.{estimateAndCommit}
 use Rattle.part_format.specs.Frame.{framesOf, dataFrame, commitFrame}
 use Rattle.general.proofs.Overwrite.{stored}
 use Rattle.encoding.proofs.layout.write_frames.Statement.{statement}

@@ -1,0 +1,51 @@
+-- The claims of demand 3 refuse the ends of specs/Impostors. Assumes nothing.
+use mathlib.Core.List.{[], _∷_}
+use mathlib.Core.Path.{_≡_, refl}
+use Prim.Native.Nat.{ℕ, zero, suc, _-_, _≤_}
+use native.Mathlib.Omega.{arith}
+use lib.ListN.{getD}
+use Rattle.general.specs.Indexed.{mapFrom}
+use Rattle.consensus.specs.Instance.{correct, crashes, CrashPoint, duringData, faultOf, proposalOf}
+use Rattle.consensus.specs.State.{undecided, decided, crashed, stateOf}
+use Rattle.consensus.specs.CrashCount.{isIdle, countsAsCrash, crashCount}
+use Rattle.consensus.specs.Consensus.{Agreement, Validity, Termination, DecidesBy, CrashesAsSaid, CrashesNoOther, CountsCrashes, NoLater, endsOf}
+use Rattle.consensus.specs.FourProcesses.{four}
+use Rattle.coordinator.specs.WorkedTable.{case1, case5, case8}
+use Rattle.consensus.specs.Impostors.{Impostors}
+
+-- None of case 1's proposals is 50.
+not-proposed : (k : ℕ) → _≡_ {A = ℕ} (getD (10 ∷ 20 ∷ 30 ∷ 40 ∷ []) k 0) 50 → ⊥
+not-proposed zero e = omega arith
+not-proposed (suc zero) e = omega arith
+not-proposed (suc (suc zero)) e = omega arith
+not-proposed (suc (suc (suc zero))) e = omega arith
+not-proposed (suc (suc (suc (suc k)))) e = omega arith
+
+correct-no-line : (r : ℕ) (point : CrashPoint) → correct ≡ crashes r point → ⊥
+correct-no-line r point e = let z : _≡_ {A = ℕ} 0 1 = cc in omega arith
+
+waiting-undecided : (v r w : ℕ) → undecided v ≡ decided r w → ⊥
+waiting-undecided v r w e = let z : _≡_ {A = ℕ} 0 1 = cc in omega arith
+
+decided-up : (r v j : ℕ) → decided r v ≡ crashed j → ⊥
+decided-up r v j e = let z : _≡_ {A = ℕ} 0 1 = cc in omega arith
+
+pub impostors : Impostors
+unfolding Agreement Validity Termination DecidesBy CrashesAsSaid CrashesNoOther CountsCrashes NoLater endsOf isIdle countsAsCrash crashCount mapFrom faultOf proposalOf stateOf four case1 case5 case8
+impostors =
+    record {
+      twoValues = λ h.
+          let same : _≡_ {A = ℕ} 20 10 = h 2 4 2 1 20 10 (record { process = omega arith; state = refl }) (record { process = omega arith; state = refl }) in
+          omega arith;
+      fixedValue = λ h. let (q, process, e) = h 2 2 50 (record { process = omega arith; state = refl }) in not-proposed (q - 1) e;
+      waitsOn = λ h. let (r, v, d) = h 2 (omega arith) (λ r c. correct-no-line r (c .point) (c .line)) in waiting-undecided 20 r v (d .state);
+      decidesLate = λ h. let early : 3 ≤ 2 = h 4 3 20 (record { process = omega arith; state = refl }) in omega arith;
+      decidesCrashing = λ h. decided-up 1 10 1 (h 1 1 (record { process = omega arith; point = duringData 8; line = refl; notIdle = refl }));
+      crashesUnsaid = λ h. let c = h 2 2 (omega arith) refl in correct-no-line 2 (c .point) (c .line);
+      countsIdle = λ h. let same : _≡_ {A = ℕ} 1 0 = h in omega arith;
+      decidesLater = λ h.
+          let (s, sooner, d) = h 4 1 10 (record { process = omega arith; state = refl }) in
+          let later : decided 2 10 ≡ decided s 10 = d .state in
+          let same : 2 ≡ s = cc in
+          omega arith;
+    }

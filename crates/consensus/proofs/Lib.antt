@@ -1,0 +1,5 @@
+pub mod Limits
+pub mod FaultsStated
+pub mod CrashCount
+pub mod SameEnds
+pub mod Impostors

@@ -1,0 +1,7 @@
+pub mod Instance
+pub mod State
+pub mod CrashCount
+pub mod WellFormed
+pub mod Consensus
+pub mod FourProcesses
+pub mod Impostors

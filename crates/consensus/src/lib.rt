@@ -1,0 +1,1 @@
+// Definitions and laws only: the problem, whatever protocol solves it (specs/, proofs/).

@@ -1,0 +1,25 @@
+-- The worked runs are what the definitions give, row by row: both sides are computed, so the line below names every definition on the way.
+-- Assumes nothing.
+use mathlib.Core.Path.{refl}
+use lib.Count.{onesIn}
+use Rattle.general.specs.Bits.{member, ones64}
+use Rattle.general.specs.Indexed.{mapFrom, countFrom}
+use Rattle.coordinator.specs.Message.{arriving}
+use Rattle.consensus.specs.Instance.{faultOf}
+use Rattle.coordinator.specs.Transition.{sends, receives}
+use Rattle.coordinator.specs.Delivery.{amongFirst, reachAt, reachIn, reach}
+use Rattle.consensus.specs.State.{stateOf, crashesIn}
+use Rattle.coordinator.specs.Round.{sentBy, received, afterOutcome, after, statesAfter}
+use Rattle.coordinator.specs.Undecided.{isUndecided, anyUndecided}
+use Rattle.coordinator.specs.Count.{dataAt, commitsAt, countIn, speaks, dataIn, commitsIn}
+use Rattle.consensus.specs.CrashCount.{isIdle, countsAsCrash, crashCount}
+use Rattle.coordinator.specs.Run.{initial, withRound, runTo, runOf, crashesOf, latestOf}
+use Rattle.coordinator.specs.Settling.{valuesHeld, allAre, oneValue, qualifies}
+use Rattle.consensus.specs.FourProcesses.{four}
+use Rattle.coordinator.specs.WorkedTable.{case1, case2, case3, case4, case5, case6, case7, case8, case9}
+use Rattle.coordinator.specs.WorkedTable.{crashesLater, silentAtLast, noCommit, twoReached, workedRuns}
+use Rattle.coordinator.specs.WorkedRuns.{qualifyingTo, worked, AsWorked, WorkedRuns}
+
+pub worked-runs : WorkedRuns
+unfolding countFrom workedRuns AsWorked worked qualifyingTo four case1 case2 case3 case4 case5 case6 case7 case8 case9 crashesLater silentAtLast noCommit twoReached onesIn member ones64 mapFrom arriving faultOf sends receives amongFirst reachAt reachIn reach stateOf crashesIn sentBy received afterOutcome after statesAfter isUndecided anyUndecided dataAt commitsAt countIn speaks dataIn commitsIn isIdle countsAsCrash crashCount initial withRound runTo runOf crashesOf valuesHeld allAre oneValue qualifies latestOf
+worked-runs = record { number = refl; asWorked = (refl, (refl, (refl, (refl, (refl, (refl, (refl, (refl, (refl, (refl, (refl, (refl, (refl, tt))))))))))))) }

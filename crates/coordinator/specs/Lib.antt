@@ -1,0 +1,13 @@
+pub mod Message
+pub mod Transition
+pub mod Delivery
+pub mod Round
+pub mod Undecided
+pub mod Count
+pub mod Run
+pub mod Settling
+pub mod WellFormed
+pub mod SpeakerBound
+pub mod CountsReached
+pub mod WorkedTable
+pub mod WorkedRuns

@@ -1,0 +1,47 @@
+-- `transitions::interrupted` meets its contract: one law for each answer. Assumes nothing.
+use mathlib.Core.Path.{refl, _∙_}
+use native.Mathlib.Omega.{arith}
+use borrow.Author.Needs.{needs}
+use Rattle.general.proofs.Sets.{only-set}
+use Rattle.coordinator_sending.proofs.Reached.{spoken, no-data, no-commits, some-data, no-commit-yet, all-data, count-allowed, some-commits}
+use Rattle.coordinator_sending.proofs.interrupted.Statement.{statement}
+use Rattle.coordinator_sending.proofs.interrupted.Tie as tie
+
+only-requires : tie.Need-only-requires
+only-requires c κs = search needs
+
+returns : tie.Need-returns
+returns c =
+    spoken _ _ _ _ refl _ _ _ (c .before .only .ensures ∙ only-set _ _ (omega arith) (omega arith))
+    (no-data _ _ _ _ _ (omega arith)) (no-commits _ _ _ _ _ (omega arith))
+
+returns-2 : tie.Need-returns-2
+returns-2 c =
+    let own = c .before .before in
+    spoken _ _ _ _ refl _ _ _ (own .only .ensures ∙ only-set _ _ (omega arith) (omega arith))
+    (some-data _ _ _ _ _ _ (own .before .pre .allowed) (omega arith)) (no-commit-yet _ _ _ _ _ (omega arith))
+
+above-requires : tie.Need-above-requires
+above-requires c κs = search needs
+
+sub-above : tie.Need-sub-above
+sub-above c =
+    let start = c .before .before .before .before in
+    omega (arith, count-allowed _ _ _ _ _ _ (start .pre .allowed) (search needs) (search needs))
+
+above-requires-2 : tie.Need-above-requires-2
+above-requires-2 c κs =
+    let start = c .before .before .before .before in
+    let few = count-allowed _ _ _ _ _ _ (start .pre .allowed) (search needs) (search needs) in
+    (omega arith, omega arith, omega arith)
+
+returns-3 : tie.Need-returns-3
+returns-3 c =
+    let own = c .before .before .before .before in
+    spoken _ _ _ _ refl _ _ _ (own .only .ensures ∙ only-set _ _ (omega arith) (omega arith))
+    (c .before .above .ensures ∙ all-data _ _ _ _ _ (search needs) (search needs))
+    (c .above2 .ensures ∙ some-commits _ _ _ _ _ _ (own .before .pre .allowed) (search needs) (search needs))
+
+pub interrupted-spec : {M : Type 1} → statement M
+interrupted-spec =
+    tie.close (tie.spec only-requires returns returns-2 above-requires sub-above above-requires-2 returns-3)

@@ -1,0 +1,34 @@
+-- The run that a table stands for (document 01, 'The ticket': 'The run keeps the table of 64 stations, with each one's value, round and end'; the numbers
+-- for an end are those of 'The result').
+use mathlib.Core.List.{List}
+use Prim.Native.Nat.{ℕ, _-_}
+use mathlib.Core.Bool.{cond}
+use lib.Dec.{eqb}
+use lib.ListN.{getD, take}
+use Rattle.general.specs.Indexed.{mapFrom}
+use Rattle.consensus.specs.State.{State, undecided, decided, crashed}
+use Rattle.coordinator.specs.Run.{Run}
+use Rattle.tables.specs.declared.RunTable.{RunTable}
+
+-- The state that an end (00 undecided, 01 decided, 02 crashed), the round of it and a value stand for.
+unfoldable pub stateByEnd : (end round value : ℕ) → State
+stateByEnd end round value = cond (eqb end 0) (undecided value) (cond (eqb end 1) (decided round value) (crashed round))
+
+-- The state of process p in a table, of which this is the end.
+unfoldable pub stateIn : RunTable → ℕ → ℕ → State
+stateIn run p end = stateByEnd end (getD (run .ended) (p - 1) 0) (getD (run .values) (p - 1) 0)
+
+-- The states of the first n processes.
+unfoldable pub statesIn : ℕ → RunTable → List State
+statesIn n run = mapFrom (stateIn run) 1 (take n (run .ends))
+
+-- The run of n processes.
+unfoldable pub runFrom : ℕ → RunTable → Run
+runFrom n run =
+    record {
+      states = statesIn n run;
+      rounds = run .rounds;
+      speakers = run .speakers;
+      dataSent = run .sent;
+      commitsSent = run .commits;
+    }
