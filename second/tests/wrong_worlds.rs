@@ -58,6 +58,9 @@ fn in_a_wrong_world_just_the_claims_fail_that_it_names() {
     }
 }
 
+/// The crates whose definitions the worlds are wrong about.
+const PROTOCOL: [&str; 2] = ["consensus", "coordinator"];
+
 /// The folder of a crate's edits.
 fn edits_of(of_crate: &str) -> PathBuf {
     Path::new(env!("CARGO_MANIFEST_DIR")).join("../crates").join(of_crate).join("must-fail")
@@ -67,17 +70,19 @@ fn edits_of(of_crate: &str) -> PathBuf {
 fn every_edit_of_the_protocol_has_a_world() {
     let names: BTreeSet<&str> = worlds().map(|world| world.name).collect();
     assert_eq!(names.len(), worlds().count());
-    for entry in fs::read_dir(edits_of("protocol")).expect("the edits of the protocol") {
-        let path = entry.expect("an entry").path();
-        let name = path.file_stem().and_then(|stem| stem.to_str()).expect("a name");
-        assert!(names.contains(format!("coordinator/{name}").as_str()), "{name}");
+    for of_crate in PROTOCOL {
+        for entry in fs::read_dir(edits_of(of_crate)).expect("the edits of the protocol") {
+            let path = entry.expect("an entry").path();
+            let name = path.file_stem().and_then(|stem| stem.to_str()).expect("a name");
+            assert!(names.contains(format!("{of_crate}/{name}").as_str()), "{of_crate}/{name}");
+        }
     }
 }
 
 #[test]
 fn a_world_that_is_named_by_an_edit_has_it() {
     for (of_crate, name) in worlds().filter_map(World::edit) {
-        assert!(["protocol", "formats"].contains(&of_crate), "{of_crate}/{name}");
+        assert!(PROTOCOL.contains(&of_crate) || of_crate == "formats", "{of_crate}/{name}");
         let edit = edits_of(of_crate).join(format!("{name}.edit"));
         assert!(edit.is_file(), "{of_crate}/{name}");
     }

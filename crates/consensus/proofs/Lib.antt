@@ -2,4 +2,4 @@ pub mod Limits
 pub mod FaultsStated
 pub mod CrashCount
 pub mod SameEnds
-pub mod Impostors
+pub mod ClaimCases

@@ -1,17 +1,11 @@
--- What is claimed of how processes end is a matter of the ends of the instance's processes alone; and so is f. Assumes nothing.
+-- What is claimed of how processes end is a matter of the ends of the instance's processes alone. Assumes nothing.
 use mathlib.Core.Path.{_≡_, sym, ap, _∙_}
 use Prim.Native.Nat.{ℕ}
-use native.Mathlib.Omega.{arith}
-use lib.ListN.{length}
-use Rattle.general.proofs.Indexed.{length-mapFrom, mapFrom-at}
-use Rattle.consensus.specs.Instance.{Instance, correct}
+use Rattle.consensus.specs.Instance.{Instance}
 use Rattle.consensus.specs.CrashCount.{isIdle}
-use Rattle.consensus.specs.State.{State, crashed, stateOf}
-use Rattle.coordinator.specs.Run.{runOf, endOf}
-use Rattle.coordinator.specs.WellFormed.{WellFormed}
-use Rattle.consensus.specs.Consensus.{IsProcess, Decides, CrashesUndecided, Agreement, Validity, Termination, DecidesBy, CrashesAsSaid, CrashesNoOther, UniformConsensus, endsOf, NoLater}
-use Rattle.coordinator.proofs.Pointwise.{states-ext}
-use Rattle.coordinator.proofs.Ends.{states-at-end}
+use Rattle.consensus.specs.State.{State}
+use Rattle.consensus.specs.Consensus.{IsProcess, Decides, CrashesUndecided, Agreement, Validity, Termination, DecidesBy}
+use Rattle.consensus.specs.Consensus.{CrashesAsSaid, CrashesNoOther, UniformConsensus, NoLater}
 
 -- Every process of the instance ends alike.
 unfoldable pub SameEnds : Instance → (ℕ → State) → (ℕ → State) → Type 0
@@ -52,11 +46,3 @@ unfolding NoLater
 no-later-same x y ends ends′ other other′ same same′ h p r v d =
     let (s, sooner, e) = h p r v (decides-same x ends′ ends (same-back x ends ends′ same) p r v d) in
     (s, sooner, decides-same y other other′ same′ p s v e)
-
--- The ends of the coordinator's run, in order, are its last states.
-pub ends-in-order : (x : Instance) → WellFormed x → (ends : ℕ → State) → SameEnds x (endOf x) ends → endsOf x ends ≡ runOf x .states
-unfolding SameEnds endsOf endOf stateOf
-ends-in-order x formed ends same =
-    let as-many : length (endsOf x ends) ≡ x .processes = simp length-mapFrom (formed .all-have-fault) in
-    states-ext (x .processes) (endsOf x ends) (runOf x .states) as-many (states-at-end x formed)
-    (λ p h g. mapFrom-at _ (x .pattern) p correct (crashed 0) h (omega (arith, formed .all-have-fault)) ∙ sym (same p (record { first = h; last = g })))

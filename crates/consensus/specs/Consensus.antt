@@ -4,12 +4,11 @@
 use mathlib.Core.List.{List}
 use mathlib.Core.Path.{_≡_}
 use mathlib.Core.Bool.{false}
-use Prim.Native.Nat.{ℕ, suc, _≤_}
+use Prim.Native.Nat.{ℕ, _≤_}
 use Rattle.general.specs.Indexed.{mapFrom}
-use Rattle.consensus.specs.Instance.{Instance, Fault, correct, crashes, CrashPoint, duringCommits, proposalOf, faultOf}
-use Rattle.consensus.specs.State.{State, decided, crashed, stateOf}
+use Rattle.consensus.specs.Instance.{Instance, crashes, CrashPoint, proposalOf, faultOf}
+use Rattle.consensus.specs.State.{State, decided, crashed}
 use Rattle.consensus.specs.CrashCount.{isIdle, crashCount}
-use Rattle.coordinator.specs.Run.{runOf, crashesOf}
 
 -- p is a process of the instance.
 pub record IsProcess (x : Instance) (p : ℕ) : Type 0 where
@@ -68,27 +67,6 @@ endsOf x ends = mapFrom (λ p fault. ends p) 1 (x .pattern)
 unfoldable pub CountsCrashes : ℕ → Instance → (ℕ → State) → Type 0
 CountsCrashes f x ends = f ≡ crashCount (x .pattern) (endsOf x ends)
 
--- Pairing by instance, a step on the way to the claim, which pairs texts (`PairedTexts`, demands/specs). The failure lines of one process in two
--- instances: the same (or none in both), or of the commit step with as many commits or more in the second, or of the commit step and missing there.
-pub data LinePaired : Fault → Fault → Type 0 where
-  same : {fault : Fault} → LinePaired fault fault
-  moreCommits : {round sent sent′ : ℕ} → sent ≤ sent′ → LinePaired (crashes round (duringCommits sent)) (crashes round (duringCommits sent′))
-  missing : {round sent : ℕ} → LinePaired (crashes round (duringCommits sent)) correct
-
--- Two instances that are equal but for that: a step on that way too.
-pub record Paired (x y : Instance) : Type 0 where
-  pub processes : x .processes ≡ y .processes
-  pub resilience : x .resilience ≡ y .resilience
-  pub proposals : x .proposals ≡ y .proposals
-  pub lines : (p : ℕ) → IsProcess x p → LinePaired (faultOf x p) (faultOf y p)
-
 -- Demand 3, second half: every process that decides in the first decides in the second, on the same value, in the same round or an earlier one.
 unfoldable pub NoLater : (x : Instance) → (ℕ → State) → (y : Instance) → (ℕ → State) → Type 0
 NoLater x ends y ends′ = (p r v : ℕ) → Decides x ends p r v → (s : ℕ) × (s ≤ r) × Decides y ends′ p s v
-
--- The end of a process in the coordinator's run, and the last round in which one may decide there: f + 1.
-unfoldable pub endOf : Instance → ℕ → State
-endOf x p = stateOf (runOf x .states) p
-
-unfoldable pub latestOf : Instance → ℕ
-latestOf x = suc (crashesOf x)

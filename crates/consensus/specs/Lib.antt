@@ -4,4 +4,4 @@ pub mod CrashCount
 pub mod WellFormed
 pub mod Consensus
 pub mod FourProcesses
-pub mod Impostors
+pub mod ClaimCases

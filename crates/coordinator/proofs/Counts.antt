@@ -17,7 +17,8 @@ use Rattle.consensus.specs.State.{State, undecided}
 use Rattle.coordinator.specs.Undecided.{isUndecided, anyUndecided}
 use Rattle.coordinator.specs.Count.{speaks, dataAt, commitsAt, countIn, dataIn, commitsIn}
 use Rattle.coordinator.specs.Run.{Run, initial, withRound, runTo, runOf, crashesOf, lastRound}
-use Rattle.coordinator.specs.WellFormed.{WellFormed, PointAllowed, FaultAllowed}
+use Rattle.consensus.specs.WellFormed.{FaultAllowedBy}
+use Rattle.coordinator.specs.WellFormed.{WellFormed, PointAllowed}
 use Rattle.coordinator.proofs.CrashCount.{crashes-le}
 use Rattle.coordinator.proofs.Ended.{round-ended, round-counted}
 
@@ -88,7 +89,7 @@ count-le at whole r (crashes round point) h = cond-le (eqb round r) (at whole po
 
 module _ (x : Instance) (w : WellFormed x) where
   point-allowed : (p round : ℕ) (point : CrashPoint) → 1 ≤ p → p ≤ x .processes → faultOf x p ≡ crashes round point → PointAllowed (x .processes) p round point
-  unfolding FaultAllowed
+  unfolding FaultAllowedBy
   point-allowed p round point h g e = (rw e at (w .faults-allowed p h g)) .2
 
   -- Round r sends at most n - r data messages, and at most n - r commit messages.

@@ -19,6 +19,7 @@ use Rattle.coordinator.specs.Delivery.{amongFirst, reachAt, reachIn, rea
 use Rattle.consensus.specs.State.{State}
 use Rattle.coordinator.specs.Count.{speaks, dataAt, commitsAt, countIn, dataIn, commitsIn}
 use Rattle.coordinator.specs.Run.{initial, withRound, runTo, runOf, lastRound}
+use Rattle.consensus.specs.WellFormed.{FaultAllowedBy}
 use Rattle.coordinator.specs.WellFormed.{WellFormed, PointAllowed, FaultAllowed}
 use Rattle.coordinator.specs.CountsReached.{reachedIn, reachedTo, CountedAsReached, CountsReached}
 use Rattle.coordinator.proofs.Pointwise.{length-states}
@@ -103,12 +104,12 @@ module _ (n r : ℕ) (within : r ≤ n) (l : List State) (as-many : length l ≡
 -- By the coordinator's fault.
 module _ (n t r : ℕ) (within : r ≤ n) (small : n ≤ 64) (l : List State) (as-many : length l ≡ n) where
   data-of-fault : (fault : Fault) → FaultAllowed n t r fault → countIn dataAt (n - r) r fault ≡ countFrom (λ p s. getsData (reach n fault r p)) 1 l
-  unfolding countIn reach reachIn FaultAllowed getsData
+  unfolding countIn reach reachIn FaultAllowedBy getsData
   data-of-fault correct allowed = all-reached n r within l as-many getsData _ refl (λ p. refl)
   data-of-fault (crashes round point) (_, _, allowed) = data-reached n r within l as-many small round point allowed (eqb round r)
 
   commits-of-fault : (fault : Fault) → FaultAllowed n t r fault → countIn commitsAt (n - r) r fault ≡ countFrom (λ p s. getsCommit (reach n fault r p)) 1 l
-  unfolding countIn reach reachIn FaultAllowed getsCommit
+  unfolding countIn reach reachIn FaultAllowedBy getsCommit
   commits-of-fault correct allowed = all-reached n r within l as-many getsCommit _ refl (λ p. refl)
   commits-of-fault (crashes round point) (_, _, allowed) = commits-reached n r within l as-many small round point allowed (eqb round r)
 

@@ -10,6 +10,7 @@ use Rattle.coordinator.specs.Message.{Reach, none, dataOnly, all}
 use Rattle.consensus.specs.Instance.{Fault, crashes, duringCommits}
 use Rattle.coordinator.specs.Delivery.{amongFirst, reachAt, reachIn, reach}
 use Rattle.consensus.specs.State.{State, undecided, decided, crashed, crashesIn}
+use Rattle.consensus.specs.WellFormed.{FaultAllowedBy}
 use Rattle.coordinator.specs.WellFormed.{PointAllowed, FaultAllowed}
 use Rattle.coordinator.specs.Pairing.{LinePaired, same, moreCommits, missing}
 
@@ -64,7 +65,7 @@ reach-related n r p (missing {round} {sent}) = under-test (ltb r p) none (all-re
 
 -- A process crashes while sending commits in its own round.
 commits-in-own-round : (n t p round sent : ℕ) → FaultAllowed n t p (crashes round (duringCommits sent)) → round ≡ p
-unfolding FaultAllowed PointAllowed
+unfolding FaultAllowedBy PointAllowed
 commits-in-own-round n t p round sent allowed = allowed .2 .0
 
 -- Paired failure lines of a process, the first within its limits, and its crash in round r.

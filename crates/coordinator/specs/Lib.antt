@@ -7,6 +7,7 @@ pub mod Count
 pub mod Run
 pub mod Settling
 pub mod WellFormed
+pub mod Pairing
 pub mod SpeakerBound
 pub mod CountsReached
 pub mod WorkedTable

@@ -1,24 +1,14 @@
 -- What every process becomes in a round (document 01, 'A round').
 use mathlib.Core.List.{List}
-use Prim.Native.Nat.{ℕ, _-_}
-use mathlib.Core.Bool.{Bool, true, false, cond}
+use Prim.Native.Nat.{ℕ}
+use mathlib.Core.Bool.{true, cond}
 use lib.Dec.{eqb}
-use lib.ListN.{getD}
 use Rattle.general.specs.Indexed.{mapFrom}
 use Rattle.coordinator.specs.Message.{Messages, nothing, arriving}
-use Rattle.consensus.specs.Instance.{Instance, Fault, correct, crashes, faultOf}
+use Rattle.consensus.specs.Instance.{Instance, Fault, faultOf}
+use Rattle.consensus.specs.State.{State, undecided, decided, crashed, stateOf, crashesIn}
 use Rattle.coordinator.specs.Transition.{Outcome, continues, decides, sends, receives}
 use Rattle.coordinator.specs.Delivery.{reach}
-
--- A process between two rounds: up and undecided with its estimate; decided in this round on this value; crashed in this round (document 01: dark).
-pub data State : Type 0 where
-  undecided : ℕ → State
-  decided : ℕ → ℕ → State
-  crashed : ℕ → State
-
--- The state of process p among those of all.
-unfoldable pub stateOf : List State → ℕ → State
-stateOf states p = getD states (p - 1) (crashed 0)
 
 -- What the coordinator of a round sends: one that has decided or crashed sends nothing.
 unfoldable pub sentBy : State → Messages
@@ -29,11 +19,6 @@ sentBy (crashed round) = nothing
 -- What process p, of n, receives in round r from its coordinator, which has this fault and began the round in the state `c`.
 unfoldable pub received : (n r : ℕ) → Fault → State → (p : ℕ) → Messages
 received n r fault c p = arriving (reach n fault r p) (sentBy c)
-
--- Whether a process with this fault crashes in round r, if it is still up and undecided then.
-unfoldable pub crashesIn : ℕ → Fault → Bool
-crashesIn r correct = false
-crashesIn r (crashes round point) = eqb round r
 
 -- The state after round r that an outcome gives.
 unfoldable pub afterOutcome : ℕ → Outcome → State

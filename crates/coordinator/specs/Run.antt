@@ -4,7 +4,7 @@ use mathlib.Core.List.{List, map}
 use Prim.Native.Nat.{ℕ, zero, suc, _+_}
 use mathlib.Core.Bool.{cond}
 use Rattle.consensus.specs.Instance.{Instance}
-use Rattle.consensus.specs.State.{State, undecided}
+use Rattle.consensus.specs.State.{State, undecided, stateOf}
 use Rattle.coordinator.specs.Round.{statesAfter}
 use Rattle.coordinator.specs.Undecided.{anyUndecided}
 use Rattle.coordinator.specs.Count.{speaks, dataIn, commitsIn}
@@ -53,3 +53,10 @@ runOf x = runTo x (lastRound x)
 -- f of a whole run: the failure lines that are not idle in it.
 unfoldable pub crashesOf : Instance → ℕ
 crashesOf x = crashCount (x .pattern) (runOf x .states)
+
+-- The end of a process in the coordinator's run, and the last round in which one may decide there: f + 1.
+unfoldable pub endOf : Instance → ℕ → State
+endOf x p = stateOf (runOf x .states) p
+
+unfoldable pub latestOf : Instance → ℕ
+latestOf x = suc (crashesOf x)

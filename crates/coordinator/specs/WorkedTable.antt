@@ -2,8 +2,9 @@
 -- Cases 1 to 12 as texts, with their results and refusals, are in crate formats.
 use mathlib.Core.List.{List, [], _∷_}
 use Prim.Native.Nat.{ℕ}
-use Rattle.consensus.specs.Instance.{Instance, Fault, correct, crashes, beforeSending, duringData, duringCommits}
+use Rattle.consensus.specs.Instance.{Instance, correct, crashes, beforeSending, duringData, duringCommits}
 use Rattle.consensus.specs.State.{State, decided, crashed}
+use Rattle.consensus.specs.FourProcesses.{four, afterOneCommit, dataToTheLast, idleBesides, idleAlone}
 
 -- An instance and what is looked at of its run.
 pub record WorkedRun : Type 0 where
@@ -17,15 +18,11 @@ pub record WorkedRun : Type 0 where
   -- the rounds that qualify for settling
   pub settling : List ℕ
 
--- Case 1's n, t and proposals.
-unfoldable pub four : List Fault → Instance
-four faults = record { processes = 4; resilience = 2; proposals = 10 ∷ 20 ∷ 30 ∷ 40 ∷ []; pattern = faults }
-
 -- Case 1: process 1 crashes after one commit.
 unfoldable pub case1 : WorkedRun
 case1 =
     record {
-      run = four (crashes 1 (duringCommits 1) ∷ correct ∷ correct ∷ correct ∷ []);
+      run = afterOneCommit;
       ends = crashed 1 ∷ decided 2 10 ∷ decided 2 10 ∷ decided 1 10 ∷ [];
       counts = 2 ∷ 1 ∷ 2 ∷ 5 ∷ 3 ∷ [];
       limits = 2 ∷ 9 ∷ [];
@@ -69,7 +66,7 @@ case4 =
 unfoldable pub case5 : WorkedRun
 case5 =
     record {
-      run = four (crashes 1 (duringData 8) ∷ correct ∷ correct ∷ correct ∷ []);
+      run = dataToTheLast;
       ends = crashed 1 ∷ decided 2 20 ∷ decided 2 20 ∷ decided 2 20 ∷ [];
       counts = 2 ∷ 1 ∷ 2 ∷ 3 ∷ 2 ∷ [];
       limits = 2 ∷ 9 ∷ [];
@@ -91,7 +88,7 @@ case6 =
 unfoldable pub case7 : WorkedRun
 case7 =
     record {
-      run = four (crashes 1 (duringCommits 1) ∷ correct ∷ correct ∷ crashes 2 beforeSending ∷ []);
+      run = idleBesides;
       ends = crashed 1 ∷ decided 2 10 ∷ decided 2 10 ∷ decided 1 10 ∷ [];
       counts = 2 ∷ 1 ∷ 2 ∷ 5 ∷ 3 ∷ [];
       limits = 2 ∷ 9 ∷ [];
@@ -102,7 +99,7 @@ case7 =
 unfoldable pub case8 : WorkedRun
 case8 =
     record {
-      run = four (correct ∷ correct ∷ crashes 2 beforeSending ∷ correct ∷ []);
+      run = idleAlone;
       ends = decided 1 10 ∷ decided 1 10 ∷ decided 1 10 ∷ decided 1 10 ∷ [];
       counts = 1 ∷ 0 ∷ 1 ∷ 3 ∷ 3 ∷ [];
       limits = 1 ∷ 6 ∷ [];

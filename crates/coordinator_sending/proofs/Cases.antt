@@ -8,6 +8,7 @@ use borrow.Author.Tests.{eqb-true, ne-eqb}
 use Rattle.general.proofs.Tests.{by-equal}
 use Rattle.consensus.specs.Instance.{Fault, correct, crashes, CrashPoint, beforeSending, duringData, duringCommits, pointFrom}
 use Rattle.consensus.specs.State.{crashesIn}
+use Rattle.consensus.specs.WellFormed.{FaultAllowedBy}
 use Rattle.coordinator.specs.WellFormed.{FaultAllowed}
 use Rattle.tables.specs.InstanceOfTable.{faultFrom}
 
@@ -53,7 +54,7 @@ crashes-by-round r round step set count h = by-round (eqb round 0) refl
 
 -- The crash round that a fault allows is at most t + 1; 0 is that of a correct process.
 pub round-within : (n t p round step set count : ℕ) → FaultAllowed n t p (faultFrom round step set count) → round ≤ t + 1
-unfolding FaultAllowed
+unfolding FaultAllowedBy
 round-within n t p round step set count allowed = by-equal round 0 (λ none. omega arith) some
   where
     some : (round ≡ 0 → ⊥) → round ≤ t + 1

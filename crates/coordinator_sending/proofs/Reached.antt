@@ -11,6 +11,7 @@ use Rattle.general.proofs.Sets.{is-set, set-same, set-empty}
 use Rattle.coordinator.specs.Message.{Reach, none, all, getsData, getsCommit}
 use Rattle.consensus.specs.Instance.{Fault, crashes, CrashPoint, beforeSending, duringData, duringCommits, pointFrom}
 use Rattle.coordinator.specs.Delivery.{amongFirst, reachAt, reachIn, reach}
+use Rattle.consensus.specs.WellFormed.{FaultAllowedBy}
 use Rattle.coordinator.specs.WellFormed.{PointAllowed, FaultAllowed}
 use Rattle.coordinator.proofs.CountsReached.{data-or-none, all-get-data, no-commit, commit-or-data, among-above}
 use Rattle.tables.specs.InstanceOfTable.{faultFrom}
@@ -101,7 +102,7 @@ module _ (n r step set count : ℕ) where
   -- A set and a count within their limits.
   module _ (t : ℕ) (allowed : FaultAllowed n t r fault) where
     pub some-data : step ≡ 1 → DataTo set
-    unfolding getsData reachAt PointAllowed FaultAllowed
+    unfolding getsData reachAt PointAllowed FaultAllowedBy
     some-data s =
         let point = at-step-1 step set count s in
         let limits : (r ≡ r) × (set % 2 ^ r ≡ 0) × (set < 2 ^ n) = rw point at (allowed .2) in
@@ -110,7 +111,7 @@ module _ (n r step set count : ℕ) where
         (λ p _. ap getsData (by-point (duringData set) point p) ∙ data-or-none (member p set)) (λ p h g. member-above r set (limits .1) p h g)
 
     pub count-allowed : (step ≡ 0 → ⊥) → (step ≡ 1 → ⊥) → r + count ≤ n
-    unfolding PointAllowed FaultAllowed
+    unfolding PointAllowed FaultAllowedBy
     count-allowed h g = (rw (at-step-2 step set count h g) at (allowed .2)) .1
 
     pub some-commits : (step ≡ 0 → ⊥) → (step ≡ 1 → ⊥) → CommitsTo (setOf n (λ p. ltb (n - count) p))

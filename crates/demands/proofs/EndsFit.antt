@@ -5,6 +5,7 @@ use Prim.Native.Nat.{ℕ, suc, _-_, _^_, _≤_, _<_}
 use native.Mathlib.Omega.{arith}
 use Rattle.consensus.specs.Instance.{Instance, crashes, proposalOf}
 use Rattle.consensus.specs.State.{State, undecided, decided, crashed, stateOf}
+use Rattle.consensus.specs.WellFormed.{FaultAllowedBy}
 use Rattle.coordinator.specs.WellFormed.{WellFormed, FaultAllowed}
 use Rattle.coordinator.specs.Run.{runOf, crashesOf, endOf, latestOf}
 use Rattle.consensus.specs.Consensus.{IsProcess, Decides, Validity, DecidesBy, CrashesNoOther, UniformConsensus}
@@ -31,7 +32,7 @@ module _ (x : Instance) (formed : WellFormed x) where
 
   -- A crash happens in the round of its failure line.
   crashed-fits : (p r : ℕ) → IsProcess x p → endOf x p ≡ crashed r → r < 256
-  unfolding CrashesNoOther FaultAllowed
+  unfolding CrashesNoOther FaultAllowedBy
   crashed-fits p r process e =
       let crash = consensus .crashesNoOther p r process e in
       let allowed : FaultAllowed (x .processes) (x .resilience) p (crashes r (crash .point)) =

@@ -7,6 +7,7 @@ use lib.Dec.{eqb, leb}
 use borrow.Author.Tests.{ltb-true, leb-true, eqb-true}
 use Rattle.general.proofs.Tests.{both}
 use Rattle.consensus.specs.Instance.{crashes, beforeSending, duringData, duringCommits, pointFrom}
+use Rattle.consensus.specs.WellFormed.{FaultAllowedBy}
 use Rattle.coordinator.specs.WellFormed.{PointAllowed, FaultAllowed}
 use Rattle.formats.specs.declared.FailureLine.{FailureLine}
 use Rattle.formats.specs.FailureLine.{placesCrash, allBetween, suitsStep, faultBy}
@@ -55,7 +56,7 @@ module _ (n t last : ℕ) (l : FailureLine) (placed : placesCrash n t last l ≡
   -- Refusals 7 and 8 let pass a fault that is allowed.
   pub crash-allowed : suitsStep n l ≡ true
       → FaultAllowed n t (l .process) (faultBy l)
-  unfolding suitsStep FaultAllowed pointFrom
+  unfolding suitsStep FaultAllowedBy pointFrom
   crash-allowed e = (
     crash-placed .round-from-1,
     crash-placed .round-to-last,
@@ -65,7 +66,7 @@ module _ (n t last : ℕ) (l : FailureLine) (placed : placesCrash n t last l ≡
 -- A line of the commit step crashes its process in its own round.
 pub commit-fault : (n t last : ℕ) (l : FailureLine) → placesCrash n t last l ≡ true → suitsStep n l ≡ true → l .step ≡ 2
     → faultBy l ≡ crashes (l .process) (duringCommits (l .count))
-unfolding pointFrom FaultAllowed PointAllowed
+unfolding pointFrom FaultAllowedBy PointAllowed
 commit-fault n t last l placed suits e =
     let allowed = crash-allowed n t last l placed suits in
     let own : l .round ≡ l .process = (rw e at allowed) .2 .0 in

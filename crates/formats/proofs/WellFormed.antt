@@ -13,7 +13,7 @@ use Rattle.general.proofs.Bytes.{AllBelow, Bytes, below-snoc, drop-bytes}
 use Rattle.general.proofs.BigEndian.{number-below}
 use Rattle.consensus.specs.Instance.{Instance, correct, faultOf, withinLimits}
 use Rattle.coordinator.specs.WellFormed.{FaultAllowed, WellFormed}
-use Rattle.consensus.specs.WellFormed.{faultCount}
+use Rattle.consensus.specs.WellFormed.{FaultAllowedBy, faultCount}
 use Rattle.formats.specs.Line.{linesOf}
 use Rattle.formats.specs.Reading.{accepted, refused, readFrom}
 use Rattle.formats.specs.declared.FailureLine.{FailureLine}
@@ -74,7 +74,7 @@ header-keeps b = by-case (header-case b)
 -- The instance after the last proposal, without any crash.
 without-crash : (x : Instance) → Limits (x .processes) (x .resilience) → ValuesFit (x .proposals) → length (x .proposals) ≡ x .processes
     → x .pattern ≡ replicate (x .processes) correct → WellFormed x
-unfolding FaultAllowed faultOf
+unfolding FaultAllowedBy faultOf
 without-crash x limits fit all none =
     record {
       some-process = limits .some-process;

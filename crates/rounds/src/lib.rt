@@ -9,9 +9,9 @@ ghost use Rattle.tables.specs.InstanceOfTable.{faultFrom, instanceOf};
 ghost use Rattle.tables.specs.RunOfTable.{statesIn, runFrom};
 ghost use Rattle.rounds.specs.Round.{RoundAllowed, RoundRun};
 ghost use Rattle.rounds.specs.CrashSets.{CrashRounds, CrashSets};
+use coordinator_sending::count;
 use tables::InstanceTable;
 use tables::RunTable;
-use coordinator_sending::count;
 
 // The sets of the processes that have the same crash round, that of round r at place r - 1.
 fn crash_sets(rounds: &[u8; 64], n: u8) -> [u64; 64]

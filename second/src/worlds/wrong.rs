@@ -260,6 +260,11 @@ const COUNTS: &[World] = &[
         Rules { is_idle: |round, end| has_crashed(end) || right::is_idle(round, end), ..RIGHT },
     ),
     world(
+        "consensus/decided-in-the-round-of-its-line-is-idle",
+        &[RefusesImpostors],
+        Rules { is_idle: |round, end| matches!(end, State::Decided(decided, _) if decided <= round), ..RIGHT },
+    ),
+    world(
         "coordinator/decided-processes-keep-the-run-going",
         &[CountsRounds, CountsSpeakers, SpeakersWithinBound, MessagesWithinBound],
         Rules {

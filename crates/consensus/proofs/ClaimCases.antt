@@ -1,4 +1,4 @@
--- The claims of demand 3 refuse the ends of specs/Impostors. Assumes nothing.
+-- The claims of demand 3 refuse and let pass the ends of specs/ClaimCases. Assumes nothing.
 use mathlib.Core.List.{[], _∷_}
 use mathlib.Core.Path.{_≡_, refl}
 use Prim.Native.Nat.{ℕ, zero, suc, _-_, _≤_}
@@ -8,10 +8,9 @@ use Rattle.general.specs.Indexed.{mapFrom}
 use Rattle.consensus.specs.Instance.{correct, crashes, CrashPoint, duringData, faultOf, proposalOf}
 use Rattle.consensus.specs.State.{undecided, decided, crashed, stateOf}
 use Rattle.consensus.specs.CrashCount.{isIdle, countsAsCrash, crashCount}
+use Rattle.consensus.specs.FourProcesses.{four, afterOneCommit, dataToTheLast, idleBesides, idleAlone}
+use Rattle.consensus.specs.ClaimCases.{case1Ends, case8Ends, Impostors, Passed, ClaimCases}
 use Rattle.consensus.specs.Consensus.{Agreement, Validity, Termination, DecidesBy, CrashesAsSaid, CrashesNoOther, CountsCrashes, NoLater, endsOf}
-use Rattle.consensus.specs.FourProcesses.{four}
-use Rattle.coordinator.specs.WorkedTable.{case1, case5, case8}
-use Rattle.consensus.specs.Impostors.{Impostors}
 
 -- None of case 1's proposals is 50.
 not-proposed : (k : ℕ) → _≡_ {A = ℕ} (getD (10 ∷ 20 ∷ 30 ∷ 40 ∷ []) k 0) 50 → ⊥
@@ -30,8 +29,8 @@ waiting-undecided v r w e = let z : _≡_ {A = ℕ} 0 1 = cc in omega arith
 decided-up : (r v j : ℕ) → decided r v ≡ crashed j → ⊥
 decided-up r v j e = let z : _≡_ {A = ℕ} 0 1 = cc in omega arith
 
-pub impostors : Impostors
-unfolding Agreement Validity Termination DecidesBy CrashesAsSaid CrashesNoOther CountsCrashes NoLater endsOf isIdle countsAsCrash crashCount mapFrom faultOf proposalOf stateOf four case1 case5 case8
+impostors : Impostors
+unfolding Agreement Validity Termination DecidesBy CrashesAsSaid CrashesNoOther CountsCrashes NoLater endsOf isIdle countsAsCrash crashCount mapFrom faultOf proposalOf stateOf four afterOneCommit dataToTheLast idleAlone case1Ends case8Ends
 impostors =
     record {
       twoValues = λ h.
@@ -49,3 +48,11 @@ impostors =
           let same : 2 ≡ s = cc in
           omega arith;
     }
+
+passed : Passed
+unfolding CountsCrashes NoLater endsOf isIdle countsAsCrash crashCount mapFrom stateOf four afterOneCommit idleBesides idleAlone case1Ends case8Ends
+passed =
+    record { oneCrash = refl; oneOfTwoLines = refl; noCrash = refl; sameRound = refl; itself = λ p r v d. (r, omega arith, d) }
+
+pub claim-cases : ClaimCases
+claim-cases = record { refused = impostors; passed = passed }
