@@ -201,11 +201,12 @@ static inline const char *uc_refusal_text(unsigned number)
  * WHAT A CALL ANSWERED, one function for each call, since the same number means different things: uc_settle may answer
  * round 10, uc_speak refusal 10. uc_CALL_refusal(answer) is the number of the refusal, and 0 if the call was not refused.
  * For the two calls that take a ticket, uc_CALL_line(answer) is the refused line; lines count from 1, and 0 means that
- * no line is wrong.
+ * no line is wrong. Bits 32 and above of their answers are 0; a call that takes several tickets would name there which one
+ * it refuses.
  */
 static inline unsigned uc_run_refusal(uint64_t answer)
 {
-    return (unsigned)(answer >> 16);
+    return (unsigned)(answer >> 16 & 65535u);
 }
 static inline unsigned uc_run_line(uint64_t answer)
 {
@@ -213,7 +214,7 @@ static inline unsigned uc_run_line(uint64_t answer)
 }
 static inline unsigned uc_settle_refusal(uint64_t answer)
 {
-    return (unsigned)(answer >> 16);
+    return (unsigned)(answer >> 16 & 65535u);
 }
 static inline unsigned uc_settle_line(uint64_t answer)
 {

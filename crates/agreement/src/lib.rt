@@ -5,15 +5,21 @@ ghost use Rattle.part_format.specs.Start.{startRefusal, startBytes};
 ghost use Rattle.part_format.specs.Speak.{speakAnswer, speakOutput};
 ghost use Rattle.part_format.specs.Close.{closeRefusal, closeState};
 ghost use Prim.Native.Nat.{_+_, _*_};
-ghost use Rattle.formats.specs.Code.{refusalCode, RunCall, SettlesAs};
+ghost use Rattle.formats.specs.Code.{placedCode, RunCall, SettlesAs};
 use running::RunAnswer;
 use running::SettleAnswer;
 
-// A refusal and its line as one number.
-fn refusal_code(number: u8, line: u16) -> u64
-    ensures { λ r. ⌜ r ≡ refusalCode number line ⌝ }
+// From here on an answer of a call that takes a ticket is a refusal.
+const REFUSALS_FROM: u64 = 65536;
+
+// From here on it names a place.
+const PLACES_FROM: u64 = 4294967296;
+
+// A refusal as one number: the place of the refused ticket among those of the call (0 where there is one alone), the number and the line.
+fn refusal_code(place: u8, number: u8, line: u16) -> u64
+    ensures { λ r. ⌜ r ≡ placedCode place number line ⌝ }
 {
-    65536 * (number as u64) + line as u64
+    PLACES_FROM * (place as u64) + REFUSALS_FROM * (number as u64) + line as u64
 }
 
 // Runs a ticket: the bytes of its result, or 65536 times the refusal plus its line.
@@ -24,7 +30,7 @@ pub extern "C" fn uc_run(ticket: &[u8], output: &mut [u8]) -> u64
     let answer = running::run_ticket(ticket, output);
     match answer {
         RunAnswer::Written(size) => size as u64,
-        RunAnswer::Refused(number, line) => refusal_code(number, line),
+        RunAnswer::Refused(number, line) => refusal_code(0, number, line),
     }
 }
 
@@ -36,7 +42,7 @@ pub extern "C" fn uc_settle(ticket: &[u8]) -> u64
     let answer = running::settle(ticket);
     match answer {
         SettleAnswer::Round(round) => round as u64,
-        SettleAnswer::Unsettled(number, line) => refusal_code(number, line),
+        SettleAnswer::Unsettled(number, line) => refusal_code(0, number, line),
     }
 }
 

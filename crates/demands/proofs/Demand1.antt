@@ -34,6 +34,7 @@ settle-answered text code s =
     by-order refusalsFrom code
     (λ (large : refusalsFrom ≤ code).
     let refused-so = codes-apart .settlingRefused text code s large in
+    let placeless = codes-apart .settlingPlaceless text code s in
     refusal _ _ (refused-wrong text _ _ refused-so) (omega arith) large)
     (λ (small : code < refusalsFrom).
     let told = codes-apart .settlingAccepted text code s small in

@@ -20,12 +20,14 @@ use Rattle.formats.specs.ResultLine.{resultText, resultSize}
 use Rattle.formats.proofs.ResultLength.{length-text}
 use Rattle.formats.specs.Running.{resultIn, running}
 use Rattle.formats.specs.Settle.{Settles}
-use Rattle.formats.specs.Code.{refusalsFrom, refusalCode, runCode, settleCode, SettlesAs}
+use Rattle.formats.specs.Code.{refusalsFrom, placesFrom, placedCode, runCode, settleCode, SettlesAs}
 use Rattle.formats.specs.CodesApart.{TellsRefusal, TellsSize, TellsRound, TellsRun, TellsSettling, CodesApart}
 
-refusal-told : (most number line : ℕ) → 1 ≤ number → number ≤ most → line < refusalsFrom → TellsRefusal most number line (refusalCode number line)
-refusal-told most number line some few short =
-    record { isRefusal = omega arith; readsNumber = omega arith; readsLine = omega arith; first = some; last = few }
+-- Of every call: refusals have numbers below 65536, and so have lines.
+refusal-told : (most place number line : ℕ) → most < refusalsFrom → 1 ≤ number → number ≤ most → line < refusalsFrom
+    → TellsRefusal most place number line (placedCode place number line)
+refusal-told most place number line within some few short =
+    record { isRefusal = omega arith; readsPlace = omega arith; readsNumber = omega arith; readsLine = omega arith; first = some; last = few }
 
 module _ (text : List ℕ) (room : ℕ) where
   result-told : (x : Instance) → readTicket text ≡ accepted x → running text room ≡ accepted (resultText x) → TellsSize text room (length (resultText x))
@@ -38,13 +40,13 @@ module _ (text : List ℕ) (room : ℕ) where
   accepted-told : (x : Instance) (short : Bool) → readTicket text ≡ accepted x → ltb room (resultSize (x .processes)) ≡ short
       → TellsRun text room (cond short (refused 9 0) (accepted (resultText x))) (runCode (cond short (refused 9 0) (accepted (resultText x))))
   unfolding TellsRun runCode running resultIn
-  accepted-told x true e h = refusal-told _ 9 0 (omega arith) (omega arith) (omega arith)
+  accepted-told x true e h = refusal-told 9 0 9 0 (omega arith) (omega arith) (omega arith) (omega arith)
   accepted-told x false e h = result-told x e (rw (e, h) refl)
 
   reading-told : (reading : Reading Instance) → readTicket text ≡ reading → RefusedBy lastRefused reading → TellsRun text room (resultIn room reading) (runCode (resultIn room reading))
   unfolding TellsRun runCode resultIn RefusedBy
   reading-told (accepted x) e h = accepted-told x (ltb room (resultSize (x .processes))) e refl
-  reading-told (refused number line) e h = refusal-told _ number line (h .0) (omega (arith, h .1)) (omega (arith, h .2))
+  reading-told (refused number line) e h = refusal-told 9 0 number line (omega arith) (h .0) (omega (arith, h .1)) (omega (arith, h .2))
 
   run-told : TellsRun text room (running text room) (runCode (running text room))
   unfolding running
@@ -55,10 +57,15 @@ module _ (text : List ℕ) (room : ℕ) where
   size-read (accepted result) code told small = told
   size-read (refused number line) code told small = absurd (omega (arith, told .isRefusal))
 
-  refusal-read : (answer : Reading (List ℕ)) (code : ℕ) → TellsRun text room answer code → refusalsFrom ≤ code → answer ≡ refused (code / refusalsFrom) (code % refusalsFrom)
+  refusal-read : (answer : Reading (List ℕ)) (code : ℕ) → TellsRun text room answer code → refusalsFrom ≤ code → answer ≡ refused (code / refusalsFrom % refusalsFrom) (code % refusalsFrom)
   unfolding TellsRun resultSize
   refusal-read (accepted result) code told large = absurd (omega (arith, told .most))
   refusal-read (refused number line) code told large = rw (told .readsNumber, told .readsLine) refl
+
+  run-placeless : (answer : Reading (List ℕ)) (code : ℕ) → TellsRun text room answer code → code < placesFrom
+  unfolding TellsRun resultSize
+  run-placeless (accepted result) code told = omega (arith, told .most)
+  run-placeless (refused number line) code told = omega (arith, told .readsPlace)
 
 -- A settling round is one of the run's, of which there are at most 64.
 round-told : (text : List ℕ) (x : Instance) (r : ℕ) → readTicket text ≡ accepted x → qualifies x r ≡ true → TellsRound text r r
@@ -83,7 +90,7 @@ module _ (text : List ℕ) where
   answer-told (accepted x) (accepted r) e h s = round-told text x r e s
   answer-told (accepted x) (refused number line) e h s = absurd s
   answer-told (refused number line) answer e h s =
-      subst (λ (a : Reading ℕ). TellsSettling text a (settleCode a)) (sym s) (refusal-told _ number line (h .0) (h .1) (omega (arith, h .2)))
+      subst (λ (a : Reading ℕ). TellsSettling text a (settleCode a)) (sym s) (refusal-told 8 0 number line (omega arith) (h .0) (h .1) (omega (arith, h .2)))
 
   settling-told : (code : ℕ) (s : SettlesAs text code) → TellsSettling text (s .answer) code
   settling-told code s = rw (s .coded) (answer-told (readTicket text) (s .answer) refl (ticket-refused text) (s .settles))
@@ -92,6 +99,11 @@ module _ (text : List ℕ) where
   unfolding TellsSettling
   round-read (accepted r) code told small = subst (λ (i : ℕ). TellsRound text i code) (sym (told .round)) told
   round-read (refused number line) code told small = absurd (omega (arith, told .isRefusal))
+
+  settling-placeless : (answer : Reading ℕ) (code : ℕ) → TellsSettling text answer code → code < placesFrom
+  unfolding TellsSettling
+  settling-placeless (accepted r) code told = omega (arith, told .most)
+  settling-placeless (refused number line) code told = omega (arith, told .readsPlace)
 
   same-refusal : (reading : Reading Instance) (number line : ℕ) → Settles reading (refused number line) → reading ≡ refused number line
   unfolding Settles
@@ -102,7 +114,7 @@ module _ (text : List ℕ) where
       rw (same, place) refl
 
   unsettled-read : (answer : Reading ℕ) (code : ℕ) → Settles (readTicket text) answer → TellsSettling text answer code → refusalsFrom ≤ code
-      → readTicket text ≡ refused (code / refusalsFrom) (code % refusalsFrom)
+      → readTicket text ≡ refused (code / refusalsFrom % refusalsFrom) (code % refusalsFrom)
   unfolding TellsSettling
   unsettled-read (accepted r) code s told large = absurd (omega (arith, told .most))
   unsettled-read (refused number line) code s told large = rw (told .readsNumber, told .readsLine) (same-refusal (readTicket text) number line s)
@@ -113,7 +125,9 @@ codes-apart =
       run = run-told;
       runAccepted = λ text room code e small. size-read text room (running text room) code (rw e (run-told text room)) small;
       runRefused = λ text room code e large. refusal-read text room (running text room) code (rw e (run-told text room)) large;
+      runPlaceless = λ text room code e. run-placeless text room (running text room) code (rw e (run-told text room));
       settling = settling-told;
       settlingAccepted = λ text code s small. round-read text (s .answer) code (settling-told text code s) small;
       settlingRefused = λ text code s large. unsettled-read text (s .answer) code (s .settles) (settling-told text code s) large;
+      settlingPlaceless = λ text code s. settling-placeless text (s .answer) code (settling-told text code s);
     }

@@ -12,9 +12,18 @@ use Rattle.formats.specs.Ticket.{readTicket}
 abbrev pub refusalsFrom : ℕ
 refusalsFrom = 65536
 
--- A refusal and its line as one number.
-abbrev pub refusalCode : ℕ → ℕ → ℕ
-refusalCode number line = refusalsFrom * number + line
+-- From here on a code names a place.
+abbrev pub placesFrom : ℕ
+placesFrom = 4294967296
+
+-- A refusal as one number: the place of the refused ticket among those of the call, counted from 1, the number and the line. A refusal that concerns no
+-- ticket of several has place 0.
+abbrev pub placedCode : (place number line : ℕ) → ℕ
+placedCode place number line = placesFrom * place + refusalsFrom * number + line
+
+-- A call that takes one ticket names no place.
+abbrev pub refusalCode : (number line : ℕ) → ℕ
+refusalCode number line = placedCode 0 number line
 
 -- Running: the bytes of the result, or the refusal.
 unfoldable pub runCode : Reading (List ℕ) → ℕ

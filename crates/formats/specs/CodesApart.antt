@@ -9,12 +9,13 @@ use Rattle.formats.specs.Reading.{Reading, accepted, refused}
 use Rattle.formats.specs.Ticket.{readTicket}
 use Rattle.formats.specs.ResultLine.{resultText, resultSize}
 use Rattle.formats.specs.Running.{running}
-use Rattle.formats.specs.Code.{refusalsFrom, runCode, SettlesAs}
+use Rattle.formats.specs.Code.{refusalsFrom, placesFrom, runCode, SettlesAs}
 
--- The code of a refusal: its number, from 1 to `most`, and its line are read off by division.
-pub record TellsRefusal (most number line code : ℕ) : Type 0 where
+-- The code of a refusal: its place, its number, from 1 to `most`, and its line are read off by division.
+pub record TellsRefusal (most place number line code : ℕ) : Type 0 where
   pub isRefusal : refusalsFrom ≤ code
-  pub readsNumber : code / refusalsFrom ≡ number
+  pub readsPlace : code / placesFrom ≡ place
+  pub readsNumber : code / refusalsFrom % refusalsFrom ≡ number
   pub readsLine : code % refusalsFrom ≡ line
   pub first : 1 ≤ number
   pub last : number ≤ most
@@ -40,19 +41,21 @@ pub record TellsRound (text : List ℕ) (r code : ℕ) : Type 0 where
 -- The code of an answer of running, and of settling.
 unfoldable pub TellsRun : List ℕ → ℕ → Reading (List ℕ) → ℕ → Type 0
 TellsRun text room (accepted result) code = TellsSize text room code
-TellsRun text room (refused number line) code = TellsRefusal 9 number line code
+TellsRun text room (refused number line) code = TellsRefusal 9 0 number line code
 
 unfoldable pub TellsSettling : List ℕ → Reading ℕ → ℕ → Type 0
 TellsSettling text (accepted r) code = TellsRound text r code
-TellsSettling text (refused number line) code = TellsRefusal 8 number line code
+TellsSettling text (refused number line) code = TellsRefusal 8 0 number line code
 
--- Every answer's code tells it; and a code is at least `refusalsFrom` just if the answer is the refusal that is read off it.
+-- Every answer's code tells it; a code is at least `refusalsFrom` just if the answer is the refusal that is read off it; and neither call names a place.
 pub record CodesApart : Type 0 where
   pub run : (text : List ℕ) (room : ℕ) → TellsRun text room (running text room) (runCode (running text room))
   pub runAccepted : (text : List ℕ) (room code : ℕ) → code ≡ runCode (running text room) → code < refusalsFrom → TellsSize text room code
   pub runRefused : (text : List ℕ) (room code : ℕ) → code ≡ runCode (running text room) → refusalsFrom ≤ code
-      → running text room ≡ refused (code / refusalsFrom) (code % refusalsFrom)
+      → running text room ≡ refused (code / refusalsFrom % refusalsFrom) (code % refusalsFrom)
+  pub runPlaceless : (text : List ℕ) (room code : ℕ) → code ≡ runCode (running text room) → code < placesFrom
   pub settling : (text : List ℕ) (code : ℕ) (s : SettlesAs text code) → TellsSettling text (s .answer) code
   pub settlingAccepted : (text : List ℕ) (code : ℕ) → SettlesAs text code → code < refusalsFrom → TellsRound text code code
   pub settlingRefused : (text : List ℕ) (code : ℕ) → SettlesAs text code → refusalsFrom ≤ code
-      → readTicket text ≡ refused (code / refusalsFrom) (code % refusalsFrom)
+      → readTicket text ≡ refused (code / refusalsFrom % refusalsFrom) (code % refusalsFrom)
+  pub settlingPlaceless : (text : List ℕ) (code : ℕ) → SettlesAs text code → code < placesFrom
