@@ -52,7 +52,7 @@ pub extern "C" fn uc_start(process: u64, n: u64, t: u64, value: u32, state: &mut
     ensures { λ r. ⌜ r ≡ startRefusal process n t (now (state .entry)) ⌝ }
     ensures { λ _. ⌜ now (state .exit) ≡ startBytes process n t value (now (state .entry)) ⌝ }
 {
-    process::start(process, n, t, value, state)
+    part::start(process, n, t, value, state)
 }
 
 // Has a process part speak: 0 or 8 bytes yielded, or refusal 9, 10 or 11.
@@ -61,7 +61,7 @@ pub extern "C" fn uc_speak(state: &[u8], output: &mut [u8]) -> u64
     ensures { λ r. ⌜ r ≡ speakAnswer (now (state .entry)) (length (now (output .entry))) ⌝ }
     ensures { λ _. ⌜ now (output .exit) ≡ speakOutput (now (state .entry)) (now (output .entry)) ⌝ }
 {
-    process::speak(state, output)
+    part::speak(state, output)
 }
 
 // Has a process part close its round on what was heard: 0, or refusal 10, 11 or 12.
@@ -70,5 +70,5 @@ pub extern "C" fn uc_close(state: &mut [u8], heard: &[u8]) -> u64
     ensures { λ r. ⌜ r ≡ closeRefusal (now (state .entry)) (now (heard .entry)) ⌝ }
     ensures { λ _. ⌜ now (state .exit) ≡ closeState (now (state .entry)) (now (heard .entry)) ⌝ }
 {
-    process::close(state, heard)
+    part::close(state, heard)
 }

@@ -1,8 +1,8 @@
 -- Demand 2, second half, and demand 3 of separate parts, of every accepted text (`parts-claim`): an accepted text states a well-formed instance. Assumes nothing.
 use Rattle.formats.proofs.WellFormed.{accepted-well-formed}
-use Rattle.parts.proofs.Calls.{output-yielded}
-use Rattle.parts.proofs.DecideAlike.{parts-decide-alike, none-refused}
-use Rattle.parts.proofs.PartsConsensus.{parts-consensus, parts-no-later}
+use Rattle.part_host.proofs.Calls.{output-yielded}
+use Rattle.part_host.proofs.DecideAlike.{parts-decide-alike, none-refused}
+use Rattle.part_host.proofs.PartsConsensus.{parts-consensus, parts-no-later}
 use Rattle.demands.specs.PartsClaim.{PartsClaim}
 use Rattle.demands.proofs.PairedTexts.{texts-paired}
 

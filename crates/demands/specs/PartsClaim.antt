@@ -7,9 +7,9 @@ use Rattle.consensus.specs.Instance.{Instance}
 use Rattle.consensus.specs.Consensus.{UniformConsensus, NoLater}
 use Rattle.formats.specs.Reading.{accepted}
 use Rattle.formats.specs.Ticket.{readTicket}
-use Rattle.parts.specs.DecideAlike.{DecideAlike, NoneRefused}
-use Rattle.parts.specs.Output.{OutputYielded}
-use Rattle.parts.specs.PartEnds.{endByPart, latestByParts}
+use Rattle.part_host.specs.DecideAlike.{DecideAlike, NoneRefused}
+use Rattle.part_host.specs.Output.{OutputYielded}
+use Rattle.part_host.specs.PartEnds.{endByPart, latestByParts}
 use Rattle.demands.specs.PairedTexts.{PairedTexts}
 
 -- Of the parts of every accepted text, and of every two texts that are paired line by line.

@@ -1,3 +1,0 @@
--- Laws of the definitions, one for each way that a function ends, which the functions' proofs cite.
-pub mod Checks
-pub mod Heard

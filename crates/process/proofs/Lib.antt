@@ -1,4 +1,0 @@
--- Laws of the definitions, one for each way that a function ends, which the functions' proofs cite.
-pub mod Bytes
-pub mod Closing
-pub mod Operations
