@@ -9,11 +9,14 @@ ghost use Rattle.formats.specs.Code.{refusalCode, RunCall, SettlesAs};
 use running::RunAnswer;
 use running::SettleAnswer;
 
+// From here on an answer of running or settling is a refusal's.
+const REFUSALS_FROM: u64 = 65536;
+
 // A refusal and its line as one number.
 fn refusal_code(number: u8, line: u16) -> u64
     ensures { λ r. ⌜ r ≡ refusalCode number line ⌝ }
 {
-    65536 * (number as u64) + line as u64
+    REFUSALS_FROM * (number as u64) + line as u64
 }
 
 // Runs a ticket: the bytes of its result, or 65536 times the refusal plus its line.
