@@ -29,7 +29,8 @@ module _ (answer : RunAnswer) where
       omega arith
 
 -- What an answer of settling is coded as.
-settled-code : (text : List ℕ) (answer : SettleAnswer) (code : ℕ) → Settles (readTicket text) (settlingOf answer) → code ≡ settleCode (settlingOf answer) → SettlesAs text code
+settled-code : (text : List ℕ) (answer : SettleAnswer) (code : ℕ) → Settles (readTicket text) (settlingOf answer) → code ≡ settleCode (settlingOf answer)
+    → SettlesAs text code
 settled-code text answer code s c = record { answer = settlingOf answer; settles = s; coded = c }
 
 module _ (text : List ℕ) (answer : SettleAnswer) (settles : Settles (readTicket text) (settlingOf answer)) where

@@ -1,13 +1,11 @@
--- Laws of a digit's value, one for each range of bytes, and of what a digit is. The other files know a digit by the last four alone. Assumes nothing.
+-- Laws of a digit's value, one for each range of bytes, of what a digit is, and of the digit of a value. Assumes nothing.
 use mathlib.Core.Path.{_≡_}
-use mathlib.Core.Logic.{_⊎_, inl, inr, ⊎-elim}
 use mathlib.Core.Bool.{true, false}
 use Prim.Native.Nat.{ℕ, _+_, _-_, _≤_, _<_}
 use native.Mathlib.Omega.{arith}
 use borrow.Author.Tests.{le-leb, lt-leb, lt-ltb, le-ltb}
 use Rattle.formats.specs.Digit.{digitValue, isDigit, noDigit}
 use Rattle.formats.specs.HexText.{digitOf}
-use Rattle.general.proofs.Tests.{by-order}
 
 pub value-below : (c : ℕ) → c < 48 → digitValue c ≡ noDigit
 unfolding digitValue
@@ -65,20 +63,3 @@ digit-decimal v h = simp (lt-ltb _ _ h)
 pub digit-letter : (v : ℕ) → 10 ≤ v → digitOf v ≡ 55 + v
 unfolding digitOf
 digit-letter v h = simp (le-ltb _ _ h)
-
--- A value is a digit's, or the mark.
-value-cases : (c : ℕ) → (digitValue c ≤ 15) ⊎ (digitValue c ≡ noDigit)
-value-cases c =
-    by-order 48 c
-    (λ from-0. by-order 58 c
-    (λ past-9. by-order 65 c
-    (λ from-A. by-order 71 c (λ past-F. inr (value-above c past-F)) (λ letter. inl (omega (arith, value-letter c from-A (omega arith)))))
-    (λ between. inr (value-between c past-9 between)))
-    (λ figure. inl (omega (arith, value-figure c from-0 (omega arith)))))
-    (λ below. inr (value-below c below))
-
-pub value-below-mark : (c : ℕ) → digitValue c < noDigit → digitValue c ≤ 15
-value-below-mark c h = ⊎-elim (λ digit. digit) (λ (mark : digitValue c ≡ noDigit). absurd (omega arith)) (value-cases c)
-
-pub value-at-most : (c : ℕ) → digitValue c ≤ noDigit
-value-at-most c = ⊎-elim (λ (digit : digitValue c ≤ 15). omega arith) (λ (mark : digitValue c ≡ noDigit). omega arith) (value-cases c)

@@ -24,35 +24,35 @@ unfolding hexDigits
 hexDigits-snoc [] b = refl
 hexDigits-snoc (c ∷ bs) b = ap (λ (l : List ℕ). digitOf (c / 16) ∷ digitOf (c % 16) ∷ l) (hexDigits-snoc bs b)
 
--- A line of which k bytes are written, over what stood there before.
+-- A line of which i bytes are written, over what stood there before.
 unfoldable pub partLine : List ℕ → List ℕ → ℕ → List ℕ
-partLine bytes before k = hexDigits (take k bytes) ++ drop (2 * k) before
+partLine bytes before i = hexDigits (take i bytes) ++ drop (2 * i) before
 
 module _ (bytes before : List ℕ) where
   pub part-none : partLine bytes before 0 ≡ before
   unfolding partLine hexDigits
   part-none = refl
 
-  length-part : (k : ℕ) → k ≤ length bytes → length (hexDigits (take k bytes)) ≡ 2 * k
-  length-part k h = length-hexDigits (take k bytes) ∙ ap (λ (m : ℕ). 2 * m) (length-take k bytes ∙ omega arith)
+  length-part : (i : ℕ) → i ≤ length bytes → length (hexDigits (take i bytes)) ≡ 2 * i
+  length-part i h = length-hexDigits (take i bytes) ∙ ap (λ (m : ℕ). 2 * m) (length-take i bytes ∙ omega arith)
 
   -- One byte more.
-  pub part-more : (k : ℕ) → k < length bytes → 2 * k + 1 < length before
-      → set (set (partLine bytes before k) (2 * k) (digitOf (getD bytes k 0 / 16))) (2 * k + 1) (digitOf (getD bytes k 0 % 16))
-      ≡ partLine bytes before (k + 1)
+  pub part-more : (i : ℕ) → i < length bytes → 2 * i + 1 < length before
+      → set (set (partLine bytes before i) (2 * i) (digitOf (getD bytes i 0 / 16))) (2 * i + 1) (digitOf (getD bytes i 0 % 16))
+      ≡ partLine bytes before (i + 1)
   unfolding partLine
-  part-more k h g =
-      let high = digitOf (getD bytes k 0 / 16) in
-      let low = digitOf (getD bytes k 0 % 16) in
-      let done = hexDigits (take k bytes) in
-      let place : suc (2 * k) ≡ 2 * k + 1 = omega arith in
-      let next : suc (2 * k + 1) ≡ 2 * (k + 1) = omega arith in
-      let size : length (done ++ (high ∷ [])) ≡ 2 * k + 1 = length-append done (high ∷ []) ∙ ap (λ (m : ℕ). m + 1) (length-part k (omega arith)) in
-      let digits : hexDigits (take (k + 1) bytes) ≡ done ++ (high ∷ []) ++ (low ∷ []) =
-      ap (λ (m : ℕ). hexDigits (take m bytes)) (add-one k) ∙ ap hexDigits (take-suc bytes k 0 h) ∙ hexDigits-snoc (take k bytes) (getD bytes k 0) in
-      ap (λ (l : List ℕ). set l (2 * k + 1) low)
-      (set-seam done before (2 * k) high (length-part k (omega arith)) (omega arith) ∙ ap (λ (m : ℕ). done ++ (high ∷ []) ++ drop m before) place)
-      ∙ set-seam (done ++ (high ∷ [])) before (2 * k + 1) low size g
+  part-more i h g =
+      let high = digitOf (getD bytes i 0 / 16) in
+      let low = digitOf (getD bytes i 0 % 16) in
+      let done = hexDigits (take i bytes) in
+      let place : suc (2 * i) ≡ 2 * i + 1 = omega arith in
+      let next : suc (2 * i + 1) ≡ 2 * (i + 1) = omega arith in
+      let size : length (done ++ (high ∷ [])) ≡ 2 * i + 1 = length-append done (high ∷ []) ∙ ap (λ (m : ℕ). m + 1) (length-part i (omega arith)) in
+      let digits : hexDigits (take (i + 1) bytes) ≡ done ++ (high ∷ []) ++ (low ∷ []) =
+      ap (λ (m : ℕ). hexDigits (take m bytes)) (add-one i) ∙ ap hexDigits (take-suc bytes i 0 h) ∙ hexDigits-snoc (take i bytes) (getD bytes i 0) in
+      ap (λ (l : List ℕ). set l (2 * i + 1) low)
+      (set-seam done before (2 * i) high (length-part i (omega arith)) (omega arith) ∙ ap (λ (m : ℕ). done ++ (high ∷ []) ++ drop m before) place)
+      ∙ set-seam (done ++ (high ∷ [])) before (2 * i + 1) low size g
       ∙ ap₂ (λ (l : List ℕ) (m : ℕ). l ++ drop m before) (sym digits) next
 
   -- The closing 0A.

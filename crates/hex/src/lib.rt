@@ -36,10 +36,10 @@ pub fn put_line(out: &mut [u8], bytes: &[u8])
     ensures { λ r. ⌜ now (out .exit) ≡ hexLine (now (bytes .entry)) ++ drop (lineSize (length (now (bytes .entry)))) (now (out .entry)) ⌝ }
 {
     let letters = letter_table();
-    let mut k = 0;
-    while k < bytes.len() {
-        put_byte(&letters, out, 2 * k, bytes[k]);
-        k += 1;
+    let mut i = 0;
+    while i < bytes.len() {
+        put_byte(&letters, out, 2 * i, bytes[i]);
+        i += 1;
     }
-    out[2 * k] = LINE_END;
+    out[2 * i] = LINE_END;
 }

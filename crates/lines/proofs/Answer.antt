@@ -1,4 +1,5 @@
--- What reading a line answers, a law for each return of `Cursor::read`: by the bytes whose digits stand from its place on, and by what stands behind them. Assumes nothing.
+-- What reading a line answers, a law for each return of `Cursor::read`: by the bytes whose digits stand from its place on, and by what stands behind.
+-- Assumes nothing.
 use mathlib.Core.List.{List, [], _∷_}
 use mathlib.Core.Path.{_≡_, refl, ap, _∙_}
 use mathlib.Core.Bool.{Bool, true, false}
@@ -20,7 +21,8 @@ unfolding readAt linesOf linesFrom unclosed firstLine
 answer-past text at h = rw (drop-of-length-le text h) refl
 
 -- Where something stands that is neither digit nor 0A, no line begins.
-broken-step : (at e : ℕ) (l : List ℕ) (end : Bool) → eqb e 10 ≡ end → firstLine at (linesFrom broken l) ≡ NoLine → firstLine at (linesFrom broken (e ∷ l)) ≡ NoLine
+broken-step : (at e : ℕ) (l : List ℕ) (end : Bool) → eqb e 10 ≡ end → firstLine at (linesFrom broken l) ≡ NoLine
+    → firstLine at (linesFrom broken (e ∷ l)) ≡ NoLine
 unfolding firstLine linesFrom closed scan
 broken-step at e l true h more = rw h refl
 broken-step at e l false h more = rw h more
@@ -78,7 +80,9 @@ module _ (text : List ℕ) (at end head tail : ℕ) (here : Scanned text at end 
       let next : suc end ≡ end + 1 = omega arith in
       ap (λ (k : ℕ). firstLine at (linesFrom (odd (here .bytes) (digitValue c)) (drop k text))) next
       ∙ by-order (length text) (end + 1)
-      (λ over. ap (λ (l : List ℕ). firstLine at (linesFrom (odd (here .bytes) (digitValue c)) l)) (drop-of-length-le text over) ∙ odd-over at (here .bytes) (digitValue c))
+      (λ over.
+      ap (λ (l : List ℕ). firstLine at (linesFrom (odd (here .bytes) (digitValue c)) l)) (drop-of-length-le text over)
+      ∙ odd-over at (here .bytes) (digitValue c))
       (λ more.
       let alone : isDigit (getD text (end + 1) 0) ≡ false = rw digit at (stops more) in
       ap (λ (l : List ℕ). firstLine at (linesFrom (odd (here .bytes) (digitValue c)) l)) (drop-cons text (end + 1) 0 more)

@@ -156,7 +156,9 @@ line-said text at b rest e =
       lower = refl;
       after = refl;
       inside = omega (arith, ends .inside);
-      lines = e ∙ ap (λ (l : List Line). bytes b ∷ l) (ends .lines ∙ ap linesOf (drop-drop (suc (2 * length b) - 0) at text ∙ ap (λ (k : ℕ). drop k text) place));
+      lines = e
+          ∙ ap (λ (l : List Line). bytes b ∷ l)
+          (ends .lines ∙ ap linesOf (drop-drop (suc (2 * length b) - 0) at text ∙ ap (λ (k : ℕ). drop k text) place));
     }
 
 module _ (text : List ℕ) (at : ℕ) where

@@ -4,29 +4,22 @@ use mathlib.Core.Path.{_≡_, refl, ap, _∙_}
 use mathlib.Core.Bool.{Bool, true, false, _&&_}
 use Prim.Native.Nat.{ℕ, suc, _+_, _-_, _*_, _/_, _%_, _≤_, _<_}
 use native.Mathlib.Omega.{arith}
+use lib.Bits.{bitOr, or-shifted}
 use lib.ListN.{length, getD, drop, length-append}
 use lib.Seq.{drop-cons}
 use Rattle.general.specs.BigEndian.{number, numberFrom}
-use Rattle.general.proofs.Tests.{by-order}
-use Rattle.formats.specs.Digit.{digitValue, isDigit, noDigit}
+use Rattle.formats.specs.Digit.{digitValue, isDigit}
 use Rattle.formats.specs.Line.{even, odd, scan, linesFrom, linesOf}
-use Rattle.formats.proofs.Digit.{value-digit, value-no-digit, value-below-mark}
+use Rattle.formats.proofs.Digit.{value-digit, value-no-digit}
 use Rattle.formats.proofs.LineSteps.{lines-digit}
 use Rattle.lines.specs.Words.{upperWord, lowerWord}
 use Rattle.lines.specs.Scanned.{Scanned, Stops}
-use Rattle.lines.proofs.Words.{lower-more, upper-more}
+use Rattle.lines.proofs.Words.{word, upperByte, lower-more, upper-more}
 
 -- Before the first digit.
 pub scanned-none : (text : List ℕ) (at : ℕ) → at ≤ length text → Scanned text at at 0 0
 unfolding linesOf upperWord lowerWord number numberFrom
 scanned-none text at h = record { bytes = []; upper = refl; lower = refl; place = omega arith; inside = h; lines = refl }
-
--- Values whose sum is below the mark are digits'.
-pub both-digits : (c d high low : ℕ) → high ≡ digitValue c → low ≡ digitValue d → high + low < noDigit → (high ≤ 15) × (low ≤ 15)
-both-digits c d high low eh el h =
-    let first = value-below-mark c (omega arith) in
-    let second = value-below-mark d (omega arith) in
-    (omega arith, omega arith)
 
 -- The two characters at a place.
 two-at : (text : List ℕ) (end : ℕ) → end + 1 < length text → drop end text ≡ getD text end 0 ∷ getD text (end + 1) 0 ∷ drop (suc (end + 1)) text
@@ -43,11 +36,13 @@ module _ (text : List ℕ) (at end head tail : ℕ) (here : Scanned text at end 
   d = getD text (end + 1) 0
 
   -- Two digits more.
-  pub scanned-more : (high low byte : ℕ) → 1 < length text - end → high ≡ digitValue c → low ≡ digitValue d → high + low < noDigit → byte ≡ high * 16 + low
-      → Scanned text at (end + 2) (head % 72057594037927936 * 256 + tail / 72057594037927936) (tail % 72057594037927936 * 256 + byte)
+  pub scanned-more : (high low byte : ℕ) → 1 < length text - end → high ≡ digitValue c → low ≡ digitValue d → high ≤ 15 → low ≤ 15
+      → byte ≡ bitOr (high * 16 % 256) low
+      → Scanned text at (end + 2) (bitOr (head * 256 % word) (tail / upperByte)) (bitOr (tail * 256 % word) byte)
   unfolding scan
-  scanned-more high low byte more eh el sum eb =
-      let (few, few′) = both-digits c d high low eh el sum in
+  scanned-more high low byte more eh el few few′ eb =
+      let shifted : high * 16 % 256 ≡ high * 16 = omega arith in
+      let joined : byte ≡ high * 16 + low = eb ∙ rw shifted (or-shifted high 4 low (omega arith)) in
       let small : byte < 256 = omega arith in
       let made : digitValue c * 16 + digitValue d ≡ byte = omega arith in
       let next : suc (end + 1) ≡ end + 2 = omega arith in
@@ -69,18 +64,19 @@ module _ (text : List ℕ) (at end head tail : ℕ) (here : Scanned text at end 
             ∙ ap (λ (k : ℕ). linesFrom (even (here .bytes ++ (byte ∷ []))) (drop k text)) next;
       }
 
--- No two digits stand where the sum of two values reaches the mark, nor at the end of the text.
+-- No two digits stand where the value of either character is no digit's, nor at the end of the text.
 and-false-right : (a : Bool) → (a && false) ≡ false
 and-false-right true = refl
 and-false-right false = refl
 
-pub stops-at-other : (text : List ℕ) (end high low : ℕ) → high ≡ digitValue (getD text end 0) → low ≡ digitValue (getD text (end + 1) 0) → noDigit ≤ high + low
-    → Stops text end
-unfolding Stops
-stops-at-other text end high low eh el h more =
-    by-order 16 (digitValue (getD text end 0))
-    (λ mark. rw (value-no-digit (getD text end 0) mark) refl)
-    (λ digit. rw (value-no-digit (getD text (end + 1) 0) (omega arith)) (and-false-right (isDigit (getD text end 0))))
+module _ (text : List ℕ) (end value : ℕ) (none : 15 < value) where
+  pub stops-at-first : value ≡ digitValue (getD text end 0) → Stops text end
+  unfolding Stops
+  stops-at-first e more = rw (value-no-digit (getD text end 0) (omega arith)) refl
+
+  pub stops-at-second : value ≡ digitValue (getD text (end + 1) 0) → Stops text end
+  unfolding Stops
+  stops-at-second e more = rw (value-no-digit (getD text (end + 1) 0) (omega arith)) (and-false-right (isDigit (getD text end 0)))
 
 pub stops-at-end : (text : List ℕ) (end : ℕ) → length text - end ≤ 1 → Stops text end
 unfolding Stops

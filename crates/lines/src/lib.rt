@@ -6,20 +6,20 @@ ghost use Rattle.formats.specs.Digit.{digitValue};
 ghost use Rattle.lines.specs.Read.{readAt};
 ghost use Rattle.lines.specs.Scanned.{Scanned, Stops};
 
-// What stands for a byte that is no digit: the sum of two values is below it just if both are digits.
+// What stands for a byte that is no digit.
 const NO_DIGIT: u8 = 64;
 
-// The value of a word's seven lower bytes is below this.
-const TOP_BYTE: u64 = 72057594037927936;
+// The value of the last digit, F.
+const LAST_DIGIT: u8 = 15;
 
 // The value of a byte as a digit, 0 to 15, or the mark of a byte that is none. (55 is A less 10.)
 fn digit_value(c: u8) -> u8
     ensures { λ r. ⌜ r ≡ digitValue c ⌝ }
 {
-    if c < b'0' {
-        return NO_DIGIT;
-    }
     if c <= b'9' {
+        if c < b'0' {
+            return NO_DIGIT;
+        }
         return c - b'0';
     }
     if c < b'A' {
@@ -55,12 +55,15 @@ fn read_digits(text: &[u8], at: usize) -> Digits
     let mut tail: u64 = 0;
     while 1 < text.len() - end {
         let high = digit_value(text[end]);
-        let low = digit_value(text[end + 1]);
-        if NO_DIGIT <= high + low {
+        if LAST_DIGIT < high {
             return Digits { end, head, tail };
         }
-        head = head % TOP_BYTE * 256 + tail / TOP_BYTE;
-        tail = tail % TOP_BYTE * 256 + wide(high * 16 + low);
+        let low = digit_value(text[end + 1]);
+        if LAST_DIGIT < low {
+            return Digits { end, head, tail };
+        }
+        head = (head << 8) | (tail >> 56);
+        tail = (tail << 8) | wide((high << 4) | low);
         end += 2;
     }
     Digits { end, head, tail }

@@ -108,10 +108,10 @@ fn take_bytes(text: &[u8], at: usize, size: usize, bytes: &mut [u8])
     requires { ⌜ at + 2 * size ≤ length (now text) ⌝ }
     requires { ⌜ size ≤ length (now bytes) ⌝ }
 {
-    let mut k = 0;
-    while k < size {
-        bytes[k] = byte_of(text[at + 2 * k], text[at + 2 * k + 1]);
-        k += 1;
+    let mut i = 0;
+    while i < size {
+        bytes[i] = byte_of(text[at + 2 * i], text[at + 2 * i + 1]);
+        i += 1;
     }
 }
 

@@ -50,13 +50,13 @@ fn value_line(p: u8, end: u8, round: u8, value: u32) -> [u8; 8]
 fn process_bytes(p: u8, end: u8, round: u8, value: u32) -> [u8; 8]
     ensures { λ r. ⌜ r ≡ 0x11 ∷ p ∷ endBytes (stateByEnd end round value) ⌝ }
 {
-    if end == 0 {
-        return value_line(p, 0, 0, value);
+    if end == tables::UNDECIDED {
+        return value_line(p, tables::UNDECIDED, 0, value);
     }
-    if end == 1 {
-        return value_line(p, 1, round, value);
+    if end == tables::DECIDED {
+        return value_line(p, tables::DECIDED, round, value);
     }
-    value_line(p, 2, round, 0)
+    value_line(p, tables::CRASHED, round, 0)
 }
 
 // The bytes of the last line.

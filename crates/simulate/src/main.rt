@@ -9,6 +9,11 @@ ghost use Rattle.formats.specs.Running.{programWrites};
 ghost use Rattle.simulate.specs.Input.{Within};
 use running::RunAnswer;
 
+// Room for a ticket and one byte more (document 01: at most 4,096 bytes), and for the result of 64 processes.
+const TICKET_ROOM: usize = 4097;
+
+const RESULT_ROOM: usize = 1105;
+
 // What standard input held.
 enum Input {
     // This many bytes, all that it holds or all that there is room for.
@@ -65,7 +70,7 @@ fn answer_text(text: &[u8], out: &mut [u8]) -> usize
 
 // Runs a ticket and writes what it answers.
 fn answer(text: &[u8]) {
-    let mut out = [0u8; 1105];
+    let mut out = [0u8; RESULT_ROOM];
     let size = answer_text(text, &mut out);
     write_front(&out, size);
 }
@@ -79,7 +84,7 @@ fn answer_front(buffer: &[u8], size: usize)
 
 // Answers the ticket on standard input. A failed read writes nothing to standard output.
 fn answer_input() {
-    let mut buffer = [0u8; 4097];
+    let mut buffer = [0u8; TICKET_ROOM];
     let Input::Text(size) = read_input(&mut buffer) else {
         os::fail(b"simulate: standard input");
         return;

@@ -21,8 +21,9 @@ same-length c = search needs
 
 returns : tie.Need-returns
 returns c =
-    let ran = c .before .before .before .before .before .run-ticket .ensures in
-    record { answered = written-code _ _ _ (ran .answered) (c .before .answer .given .1); buffer = ran .buffer }
+    let told = c .before in
+    let ran = told .before .before .before .before .run-ticket .ensures in
+    record { answered = written-code _ _ _ (ran .answered) (told .answer .given .1); buffer = ran .buffer }
 
 same-length-2 : tie.Need-same-length-2
 same-length-2 c = search needs

@@ -9,10 +9,10 @@ use Rattle.hex.proofs.put_line.Statement.{statement}
 use Rattle.hex.proofs.put_line.Tie as tie
 
 abbrev Inv-loop : tie.InvT-loop
-Inv-loop out₀ bytes letters k₀ out k = (k ≤ length bytes) × (length out ≡ length out₀) × (out ≡ partLine bytes out₀ k)
+Inv-loop out₀ bytes letters i₀ out i = (i ≤ length bytes) × (length out ≡ length out₀) × (out ≡ partLine bytes out₀ i)
 
 abbrev μ-loop : tie.MeasureT-loop
-μ-loop out₀ bytes letters k₀ out k = length bytes - k
+μ-loop out₀ bytes letters i₀ out i = length bytes - i
 
 letter-table-requires : tie.Need-letter-table-requires Inv-loop μ-loop
 letter-table-requires c κs = search needs
@@ -29,8 +29,8 @@ shared-slice-read-put-byte c = search needs
 put-byte-requires : tie.Need-put-byte-requires Inv-loop μ-loop
 put-byte-requires c κs = search needs
 
-add-k : tie.Need-add-k Inv-loop μ-loop
-add-k c = search needs
+add-i : tie.Need-add-i Inv-loop μ-loop
+add-i c = search needs
 
 loop-less : tie.Need-loop-less Inv-loop μ-loop
 loop-less c = search needs
@@ -38,7 +38,8 @@ loop-less c = search needs
 loop-again : tie.Need-loop-again Inv-loop μ-loop
 loop-again c =
     let turn = c .before .before in
-    let place = turn .before .before .before .before .before in
+    let lent = turn .before .before .before in
+    let place = lent .before .before in
     let start = place .before .before .before .before .args in (
       search needs,
       search needs,
@@ -56,9 +57,10 @@ same-length c = search needs
 
 returns : tie.Need-returns Inv-loop μ-loop
 returns c =
-    let start = c .before .before .before .before .before .args in
-    let last : c .before .loop .k ≡ length (start .bytes .now) = omega arith in
-    rw (c .before .loop .inv .2, last) (part-closed (start .bytes .now) (start .out .now) (omega arith))
+    let place = c .before in
+    let start = place .before .before .before .before .args in
+    let last : place .loop .i ≡ length (start .bytes .now) = omega arith in
+    rw (place .loop .inv .2, last) (part-closed (start .bytes .now) (start .out .now) (omega arith))
 
 pub put-line-spec : {M : Type 1} → statement M
 put-line-spec =
@@ -71,7 +73,7 @@ put-line-spec =
     mul-put-byte
     shared-slice-read-put-byte
     put-byte-requires
-    add-k
+    add-i
     loop-less
     loop-again
     mul-out

@@ -1,12 +1,10 @@
--- `lines::read_digits` meets its contract. The loop's invariant: from `at` to `end` stand the digits of bytes of which head and tail are the words. Assumes nothing.
+-- `lines::read_digits` meets its contract. Invariant: from `at` to `end` stand the digits of bytes of which head and tail are the words. Assumes nothing.
 use borrow.Author.Needs.{needs}
 use native.Mathlib.Omega.{arith}
-use Prim.Native.Nat.{_-_, _≤_}
+use Prim.Native.Nat.{_-_}
 use lib.ListN.{length}
 use Rattle.lines.specs.Scanned.{Scanned}
-use Rattle.formats.proofs.Digit.{value-at-most}
-use Rattle.lines.proofs.Words.{lower-fits}
-use Rattle.lines.proofs.Scanning.{scanned-none, both-digits, scanned-more, stops-at-other, stops-at-end}
+use Rattle.lines.proofs.Scanning.{scanned-none, scanned-more, stops-at-first, stops-at-second, stops-at-end}
 use Rattle.lines.proofs.read_digits.Statement.{statement}
 use Rattle.lines.proofs.read_digits.Tie as tie
 
@@ -28,6 +26,11 @@ shared-slice-read-digit-value c = omega arith
 digit-value-requires : tie.Need-digit-value-requires Inv-loop μ-loop
 digit-value-requires c κs = search needs
 
+returns : tie.Need-returns Inv-loop μ-loop
+returns c =
+    let here = c .before in
+    (here .before .before .before .loop .inv, stops-at-first _ _ _ (omega arith) (here .digit-value .ensures))
+
 add-digit-value : tie.Need-add-digit-value Inv-loop μ-loop
 add-digit-value c = search needs
 
@@ -37,46 +40,18 @@ shared-slice-read-digit-value-2 c = omega arith
 digit-value-requires-2 : tie.Need-digit-value-requires-2 Inv-loop μ-loop
 digit-value-requires-2 c κs = search needs
 
--- The values of two characters that are read.
-digits-here : (c : tie.Else1 Inv-loop μ-loop) → (c .before .before .before .digit-value .result ≤ 15) × (c .before .digit-value2 .result ≤ 15)
-digits-here c =
-    let high = c .before .before .before .digit-value .ensures in
-    let low = c .before .digit-value2 .ensures in
-    both-digits _ _ _ _ high low (omega arith)
+-- Where the first of two characters was seen to be a digit, and where that turn of the loop began.
+abbrev first : tie.After-digit-value2 Inv-loop μ-loop → tie.Else1 Inv-loop μ-loop
+first c = c .before .before
 
-add-if1 : tie.Need-add-if1 Inv-loop μ-loop
-add-if1 c =
-    let high : c .before .before .digit-value .result ≤ 64 = rw (c .before .before .digit-value .ensures) (value-at-most _) in
-    let low : c .digit-value2 .result ≤ 64 = rw (c .digit-value2 .ensures) (value-at-most _) in
-    omega arith
+abbrev turn : tie.After-digit-value2 Inv-loop μ-loop → tie.At-loop Inv-loop μ-loop
+turn c = first c .before .before .before .before
 
-returns : tie.Need-returns Inv-loop μ-loop
-returns c =
-    let loop = c .before .before .before .before .before .before .loop in
-    let high = c .before .before .before .digit-value .ensures in
-    let low = c .before .digit-value2 .ensures in
-    (loop .inv, stops-at-other _ _ _ _ high low (omega arith))
-
-mul-head : tie.Need-mul-head Inv-loop μ-loop
-mul-head c = omega arith
-
-add-head : tie.Need-add-head Inv-loop μ-loop
-add-head c = let low = lower-fits (c .before .before .before .before .before .before .loop .inv .bytes) in omega arith
-
-mul-tail : tie.Need-mul-tail Inv-loop μ-loop
-mul-tail c = omega arith
-
-mul-wide : tie.Need-mul-wide Inv-loop μ-loop
-mul-wide c = let digits = digits-here c in omega arith
-
-add-wide : tie.Need-add-wide Inv-loop μ-loop
-add-wide c = let digits = digits-here c in omega arith
+returns-2 : tie.Need-returns-2 Inv-loop μ-loop
+returns-2 c = (turn (c .before) .loop .inv, stops-at-second _ _ _ (omega arith) (c .before .digit-value2 .ensures))
 
 wide-requires : tie.Need-wide-requires Inv-loop μ-loop
 wide-requires c κs = search needs
-
-add-tail : tie.Need-add-tail Inv-loop μ-loop
-add-tail c = let digits = digits-here (c .before) in omega (arith, c .wide .ensures)
 
 add-end : tie.Need-add-end Inv-loop μ-loop
 add-end c = omega arith
@@ -86,12 +61,12 @@ loop-less c = omega arith
 
 loop-again : tie.Need-loop-again Inv-loop μ-loop
 loop-again c =
-    let turn = c .before .before in
-    scanned-more _ _ _ _ _ (turn .before .before .before .before .before .loop .inv) _ _ _ (omega arith)
-    (turn .before .before .digit-value .ensures) (turn .digit-value2 .ensures) (omega arith) (c .wide .ensures)
+    let second = c .before .before in
+    scanned-more _ _ _ _ _ (turn second .loop .inv) _ _ _ (omega arith) (first second .before .digit-value .ensures) (second .digit-value2 .ensures)
+    (omega arith) (omega arith) (c .wide .ensures)
 
-returns-2 : tie.Need-returns-2 Inv-loop μ-loop
-returns-2 c = (c .before .loop .inv, stops-at-end _ _ (omega arith))
+returns-3 : tie.Need-returns-3 Inv-loop μ-loop
+returns-3 c = (c .before .loop .inv, stops-at-end _ _ (omega arith))
 
 pub read-digits-spec : {M : Type 1} → statement M
 read-digits-spec =
@@ -103,19 +78,13 @@ read-digits-spec =
     sub-loop
     shared-slice-read-digit-value
     digit-value-requires
+    returns
     add-digit-value
     shared-slice-read-digit-value-2
     digit-value-requires-2
-    add-if1
-    returns
-    mul-head
-    add-head
-    mul-tail
-    mul-wide
-    add-wide
+    returns-2
     wide-requires
-    add-tail
     add-end
     loop-less
     loop-again
-    returns-2)
+    returns-3)

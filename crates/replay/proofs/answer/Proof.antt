@@ -19,8 +19,9 @@ slice-aggregate-write-front c = search needs
 
 write-front-requires : tie.Need-write-front-requires
 write-front-requires c κs =
-    let call = c .before .before .before .before .before .run-in in
-    omega (arith, written-fits-in _ _ _ _ _ _ (call .ensures) (c .before .before .ran .given .1), call .kept .1 .1 .0)
+    let told = c .before .before in
+    let call = told .before .before .before .run-in in
+    omega (arith, written-fits-in _ _ _ _ _ _ (call .ensures) (told .ran .given .1), call .kept .1 .1 .0)
 
 slice-aggregate-write-changed : tie.Need-slice-aggregate-write-changed
 slice-aggregate-write-changed c = search needs

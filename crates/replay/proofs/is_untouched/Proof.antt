@@ -22,7 +22,9 @@ shared-slice-read-if1 : tie.Need-shared-slice-read-if1 Inv-loop μ-loop
 shared-slice-read-if1 c = search needs
 
 returns : tie.Need-returns Inv-loop μ-loop
-returns c = untouched-other _ (c .before .before .before .before .args .from) (c .before .before .before .loop .i) (c .before .before .before .loop .inv) (omega arith) (omega arith)
+returns c =
+    let turn = c .before .before .before in
+    untouched-other _ (turn .before .args .from) (turn .loop .i) (turn .loop .inv) (omega arith) (omega arith)
 
 add-i : tie.Need-add-i Inv-loop μ-loop
 add-i c = search needs
@@ -31,7 +33,9 @@ loop-less : tie.Need-loop-less Inv-loop μ-loop
 loop-less c = search needs
 
 loop-again : tie.Need-loop-again Inv-loop μ-loop
-loop-again c = untouched-more _ (c .before .before .before .before .args .from) (c .before .before .before .loop .i) (c .before .before .before .loop .inv) (omega arith) (omega arith)
+loop-again c =
+    let turn = c .before .before .before in
+    untouched-more _ (turn .before .args .from) (turn .loop .i) (turn .loop .inv) (omega arith) (omega arith)
 
 returns-2 : tie.Need-returns-2 Inv-loop μ-loop
 returns-2 c = untouched-end _ (c .before .before .args .from) (c .before .loop .i) (c .before .loop .inv) (omega arith)

@@ -14,9 +14,12 @@ Inv-loop text here₀ here = Unit {0}
 abbrev μ-loop : tie.MeasureT-loop
 μ-loop text here₀ here = length text - here .at
 
--- The line that was read.
+-- The turn of the loop in which a line was read, and the line.
+abbrev turn : tie.After-read Inv-loop μ-loop → tie.At-loop Inv-loop μ-loop
+turn c = c .before .before .before
+
 line-here : (c : tie.After-size Inv-loop μ-loop)
-    → LineAt (c .before .before .before .before .before .before .before .args .text .now) (c .before .before .before .before .before .loop .here .at)
+    → LineAt (turn (c .before .before) .before .before .args .text .now) (turn (c .before .before) .loop .here .at)
     (c .size .given .0 .0) (c .size .given .0 .1 .0) (c .size .given .0 .1 .1 .0) (c .size .given .0 .1 .1 .1 .0)
 line-here c = read-line _ _ _ _ _ _ (sym (c .before .before .read .ensures) ∙ c .size .given .1)
 

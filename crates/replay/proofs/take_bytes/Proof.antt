@@ -8,10 +8,10 @@ use Rattle.replay.proofs.take_bytes.Statement.{statement}
 use Rattle.replay.proofs.take_bytes.Tie as tie
 
 abbrev Inv-loop : tie.InvT-loop
-Inv-loop text at size bytes₀ k₀ bytes k = length bytes ≡ length bytes₀
+Inv-loop text at size bytes₀ i₀ bytes i = length bytes ≡ length bytes₀
 
 abbrev μ-loop : tie.MeasureT-loop
-μ-loop text at size bytes₀ k₀ bytes k = size - k
+μ-loop text at size bytes₀ i₀ bytes i = size - i
 
 loop-holds : tie.Need-loop-holds Inv-loop μ-loop
 loop-holds c = refl
@@ -43,8 +43,8 @@ byte-of-requires c κs = search needs
 slice-write-bytes : tie.Need-slice-write-bytes Inv-loop μ-loop
 slice-write-bytes c = search needs
 
-add-k : tie.Need-add-k Inv-loop μ-loop
-add-k c = search needs
+add-i : tie.Need-add-i Inv-loop μ-loop
+add-i c = search needs
 
 loop-less : tie.Need-loop-less Inv-loop μ-loop
 loop-less c = search needs
@@ -74,7 +74,7 @@ take-bytes-spec =
     shared-slice-read-byte-of-2
     byte-of-requires
     slice-write-bytes
-    add-k
+    add-i
     loop-less
     loop-again
     same-length

@@ -68,10 +68,11 @@ loop-less c = search needs
 loop-again : tie.Need-loop-again Inv-loop μ-loop
 loop-again c =
     let written = c .before .before in
-    let turn = written .before .before .before .before .before .before .before .before in
+    let line = written .before .before .before in
+    let asked = line .before .before .before in
+    let turn = asked .before .before in
     let start = turn .before .before .args in
     let states = statesOver (start .n) (start .ends .now) (start .ended .now) (start .values .now) in
-    let line = written .before .before .before in
     let inv = turn .loop .inv in
     let size : length states ≡ start .n = length-statesOver (start .n) (start .ends .now) (start .ended .now) (start .values .now) (inv .1) in
     let state = state-over-at (start .n) (start .ends .now) (start .ended .now) (start .values .now) (inv .1) (turn .loop .i) (omega arith) in

@@ -37,8 +37,9 @@ slice-aggregate-put-line c = search needs
 put-line-requires : tie.Need-put-line-requires
 unfolding resultSize
 put-line-requires c κs =
-    let size : length (c .before .before .last-bytes .result) ≡ 8 = search needs in
-    simp (length-take, length-drop) (omega (arith, c .before .before .before .before .before .put-process-lines .kept .0))
+    let last = c .before .before in
+    let size : length (last .last-bytes .result) ≡ 8 = search needs in
+    simp (length-take, length-drop) (omega (arith, last .before .before .before .put-process-lines .kept .0))
 
 same-length : tie.Need-same-length
 same-length c = search needs

@@ -30,8 +30,9 @@ slice-aggregate-answer-front c = search needs
 
 answer-front-requires : tie.Need-answer-front-requires
 answer-front-requires c κs =
-    let call = c .before .before .before .before .before .read-input in
-    omega (arith, rw (c .before .before .size .given .1) at (call .ensures), call .kept .0)
+    let told = c .before .before in
+    let call = told .before .before .before .read-input in
+    omega (arith, rw (told .size .given .1) at (call .ensures), call .kept .0)
 
 returns-2 : tie.Need-returns-2
 returns-2 c = search needs
