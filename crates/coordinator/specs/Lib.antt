@@ -9,5 +9,6 @@ pub mod Settling
 pub mod WellFormed
 pub mod SpeakerBound
 pub mod CountsReached
+pub mod RunRounds
 pub mod WorkedTable
 pub mod WorkedRuns
