@@ -46,13 +46,16 @@ unfolding runTo initial withRound
 speakers-le x zero = omega arith
 speakers-le x (suc r) = omega (arith, speakers-le x r, cond-le (speaks (suc r) (runTo x r .states)) 1 0 1 (omega arith) (omega arith))
 
--- The rounds do not fall from one round to the next.
+-- The rounds do not fall from one round to the next, nor to any later one.
 rounds-rise : (x : Instance) (r : ℕ) → runTo x r .rounds ≤ runTo x (suc r) .rounds
 rounds-rise x r = by-step (rounds-step x r)
   where
     by-step : (runTo x (suc r) .rounds ≡ suc r) ⊎ (runTo x (suc r) .rounds ≡ runTo x r .rounds) → runTo x r .rounds ≤ runTo x (suc r) .rounds
     by-step (inl e) = omega (arith, rounds-le x r)
     by-step (inr e) = omega arith
+
+pub rounds-mono : (x : Instance) (q m : ℕ) → q ≤ m → runTo x q .rounds ≤ runTo x m .rounds
+rounds-mono x q m h = le-ind (λ (r : ℕ). runTo x q .rounds ≤ runTo x r .rounds) (le-refl _) (λ r _ rest. le-trans rest (rounds-rise x r)) m h
 
 proposed-undecided : (proposals : List ℕ) → 1 ≤ length proposals → anyUndecided (map undecided proposals) ≡ true
 unfolding anyUndecided isUndecided
@@ -65,8 +68,7 @@ unfolding runTo initial
 first-round x h = round-counted x 1 (initial x) (proposed-undecided (x .proposals) h)
 
 pub rounds-pos : (x : Instance) → WellFormed x → (r : ℕ) → 1 ≤ r → 1 ≤ runTo x r .rounds
-rounds-pos x w r h =
-    le-ind (λ (m : ℕ). 1 ≤ runTo x m .rounds) (omega (arith, first-round x (omega arith))) (λ m _ rest. le-trans rest (rounds-rise x m)) r h
+rounds-pos x w r h = omega (arith, first-round x (omega arith), rounds-mono x 1 r h)
 
 -- What a speaker that crashes at an allowed point sends of either kind.
 data-allowed : (n p round : ℕ) (point : CrashPoint) → p ≤ n → n ≤ 64 → PointAllowed n p round point → dataAt (n - p) point ≤ n - p

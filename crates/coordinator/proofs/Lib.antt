@@ -21,4 +21,5 @@ pub mod Settled
 pub mod Speakers
 pub mod Bound
 pub mod CountsReached
+pub mod RunRounds
 pub mod WorkedRuns

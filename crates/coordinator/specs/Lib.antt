@@ -10,5 +10,6 @@ pub mod WellFormed
 pub mod Pairing
 pub mod SpeakerBound
 pub mod CountsReached
+pub mod RunRounds
 pub mod WorkedTable
 pub mod WorkedRuns

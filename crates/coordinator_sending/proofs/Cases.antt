@@ -1,15 +1,12 @@
 -- The faults that the numbers of a table stand for, by cases. Assumes nothing.
 use mathlib.Core.Path.{_≡_, refl}
-use Prim.Native.Nat.{ℕ, _+_, _≤_}
+use Prim.Native.Nat.{ℕ, _≤_}
 use mathlib.Core.Bool.{Bool, true, false, cond}
 use native.Mathlib.Omega.{arith}
 use lib.Dec.{eqb}
 use borrow.Author.Tests.{eqb-true, ne-eqb}
-use Rattle.general.proofs.Tests.{by-equal}
 use Rattle.consensus.specs.Instance.{Fault, correct, crashes, CrashPoint, beforeSending, duringData, duringCommits, pointFrom}
 use Rattle.consensus.specs.State.{crashesIn}
-use Rattle.consensus.specs.WellFormed.{FaultAllowedBy}
-use Rattle.coordinator.specs.WellFormed.{FaultAllowed}
 use Rattle.tables.specs.InstanceOfTable.{faultFrom}
 
 -- The fault of a crash round that is that of this round.
@@ -51,11 +48,3 @@ crashes-by-round r round step set count h = by-round (eqb round 0) refl
     by-round : (b : Bool) → eqb round 0 ≡ b → eqb round r ≡ crashesIn r (cond b correct (crashes round (pointFrom step set count)))
     by-round true e = let other : round ≡ r → ⊥ = (λ same. let none : round ≡ 0 = eqb-true round 0 e in omega arith) in ne-eqb round r other
     by-round false e = refl
-
--- The crash round that a fault allows is at most t + 1; 0 is that of a correct process.
-pub round-within : (n t p round step set count : ℕ) → FaultAllowed n t p (faultFrom round step set count) → round ≤ t + 1
-unfolding FaultAllowedBy
-round-within n t p round step set count allowed = by-equal round 0 (λ none. omega arith) some
-  where
-    some : (round ≡ 0 → ⊥) → round ≤ t + 1
-    some ne = let limits = rw (crash-of-round round round step set count (omega arith) refl) at allowed in omega (arith, limits .1)

@@ -5,9 +5,9 @@ ghost use Prim.Native.Nat.{_*_, _≤_};
 ghost use lib.ListN.{length, drop};
 ghost use Rattle.general.specs.BigEndian.{bytesOf};
 ghost use Rattle.general.specs.Indexed.{mapFrom};
-ghost use Rattle.tables.specs.RunOfTable.{stateByEnd};
+ghost use Rattle.tables.specs.RunOfTable.{stateByEnd, statesOver};
 ghost use Rattle.formats.specs.ResultLine.{endBytes, processLine, processLineSize, joined, resultLines, resultSize, refusalLine, refusalLineSize};
-ghost use Rattle.result.specs.RunOver.{statesOver, runOver};
+ghost use Rattle.result.specs.RunOver.{runOver};
 
 // The kinds of the lines: a process's, the last one, and a refusal's.
 const PROCESS_LINE: u8 = 0x11;
@@ -60,18 +60,18 @@ fn process_bytes(p: u8, end: u8, round: u8, value: u32) -> [u8; 8]
 }
 
 // The bytes of the last line.
-fn last_bytes(rounds: u8, f: u8, speakers: u8, sent: u16, commits: u16) -> [u8; 8]
-    ensures { λ r. ⌜ r ≡ 0x12 ∷ rounds ∷ f ∷ speakers ∷ bytesOf 2 sent ++ bytesOf 2 commits ⌝ }
+fn last_bytes(rounds: u8, f: u8, speakers: u8, data_sent: u16, commits_sent: u16) -> [u8; 8]
+    ensures { λ r. ⌜ r ≡ 0x12 ∷ rounds ∷ f ∷ speakers ∷ bytesOf 2 «data_sent» ++ bytesOf 2 «commits_sent» ⌝ }
 {
     [
         LAST_LINE,
         rounds,
         f,
         speakers,
-        (sent / 256 % 256) as u8,
-        (sent % 256) as u8,
-        (commits / 256 % 256) as u8,
-        (commits % 256) as u8,
+        (data_sent / 256 % 256) as u8,
+        (data_sent % 256) as u8,
+        (commits_sent / 256 % 256) as u8,
+        (commits_sent % 256) as u8,
     ]
 }
 
@@ -81,17 +81,17 @@ fn put_process_lines<'a>(
     out: &mut [u8],
     n: usize,
     ends: &'a [u8; 64],
-    ended: &'a [u8; 64],
+    end_rounds: &'a [u8; 64],
     values: &'a [u32; 64],
 )
     requires { ⌜ (n ≤ 64) × (n ≤ length (now ends)) × (processLineSize * n ≤ length (now out)) ⌝ }
     ensures { λ r. ⌜ now (out .exit)
-        ≡ joined (mapFrom processLine 1 (statesOver n (now (ends .entry)) (now (ended .entry)) (now (values .entry))))
+        ≡ joined (mapFrom processLine 1 (statesOver n (now (ends .entry)) (now («end_rounds» .entry)) (now (values .entry))))
         ++ drop (processLineSize * n) (now (out .entry)) ⌝ }
 {
     let mut i = 0;
     while i < n {
-        let line = process_bytes((i + 1) as u8, ends[i], ended[i], values[i]);
+        let line = process_bytes((i + 1) as u8, ends[i], end_rounds[i], values[i]);
         hex::put_line(&mut out[PROCESS_LINE_SIZE * i..], &line);
         i += 1;
     }
@@ -102,23 +102,23 @@ pub fn write_result<'a>(
     out: &mut [u8],
     n: u8,
     ends: &'a [u8; 64],
-    ended: &'a [u8; 64],
+    end_rounds: &'a [u8; 64],
     values: &'a [u32; 64],
     rounds: u8,
     f: u8,
     speakers: u8,
-    sent: u16,
-    commits: u16,
+    data_sent: u16,
+    commits_sent: u16,
 )
     requires { ⌜ (n ≤ 64) × (n ≤ length (now ends)) × (resultSize n ≤ length (now out)) ⌝ }
     ensures { λ r. ⌜ now (out .exit)
-        ≡ resultLines (runOver n (now (ends .entry)) (now (ended .entry)) (now (values .entry)) rounds speakers sent commits) f
+        ≡ resultLines (runOver n (now (ends .entry)) (now («end_rounds» .entry)) (now (values .entry)) rounds speakers «data_sent» «commits_sent») f
         ++ drop (resultSize n) (now (out .entry)) ⌝ }
 {
     let count = n as usize;
-    put_process_lines(out, count, ends, ended, values);
+    put_process_lines(out, count, ends, end_rounds, values);
     let at = PROCESS_LINE_SIZE * count;
-    let line = last_bytes(rounds, f, speakers, sent, commits);
+    let line = last_bytes(rounds, f, speakers, data_sent, commits_sent);
     hex::put_line(&mut out[at..], &line);
 }
 

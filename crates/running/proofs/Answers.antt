@@ -16,7 +16,7 @@ use Rattle.coordinator.proofs.Settled.{settled-at-last}
 use Rattle.tables.specs.InstanceOfTable.{instanceOf}
 use Rattle.tables.specs.declared.InstanceTable.{InstanceTable}
 use Rattle.tables.specs.declared.RunTable.{RunTable}
-use Rattle.tables.specs.RunOfTable.{runFrom, statesIn}
+use Rattle.tables.specs.RunOfTable.{runFrom}
 use Rattle.formats.specs.Reading.{Reading, accepted, refused}
 use Rattle.formats.specs.Ticket.{readTicket}
 use Rattle.ticket.specs.Answer.{readingFrom, readingOf}
@@ -29,6 +29,7 @@ use Rattle.formats.specs.Running.{resultIn, running, bufferAfter}
 use Rattle.formats.specs.Settle.{Settles}
 use Rattle.result.specs.RunOver.{runOver}
 use Rattle.result.proofs.RunOver.{run-over}
+use Rattle.coordinator_run.proofs.Crashes.{faultsBy, statesBy, counts-by-rounds}
 use Rattle.running.specs.Answer.{answerOf, Ran, settlingOf}
 use Rattle.running.specs.declared.RunAnswer.{RunAnswer}
 use Rattle.running.specs.declared.RunAnswer.the-variants.{Written, Refused}
@@ -74,16 +75,17 @@ module _ (text before : List ℕ) where
 
     -- The code's run and its f give the instance's result.
     result-is : (run : RunTable) (f : ℕ) → runFrom (table .n) run ≡ runOf (instanceOf table)
-        → f ≡ crashCount (instanceOf table .pattern) (statesIn (table .n) run)
-        → resultLines (runOver (table .n) (run .ends) (run .ended) (run .values) (run .rounds) (run .speakers) (run .sent) (run .commits)) f
+        → f ≡ crashCount (faultsBy (table .n) (table .rounds)) (statesBy (table .n) (run .ends) (run .«end_rounds»))
+        → resultLines (runOver (table .n) (run .ends) (run .«end_rounds») (run .values) (run .rounds) (run .speakers) (run .«data_sent») (run .«commits_sent»)) f
         ≡ resultText (instanceOf table)
     unfolding resultText crashesOf runFrom
     result-is run f same counted =
-        ap₂ resultLines (run-over (table .n) run ∙ same) (counted ∙ ap (λ (r : Run). crashCount (instanceOf table .pattern) (r .states)) same)
+        ap₂ resultLines (run-over (table .n) run ∙ same)
+        (counted ∙ counts-by-rounds table run ∙ ap (λ (r : Run). crashCount (instanceOf table .pattern) (r .states)) same)
 
     pub ran-written : (size : ℕ) → size ≡ resultSize (table .n) → (run : RunTable) (f : ℕ) (after : List ℕ) → runFrom (table .n) run ≡ runOf (instanceOf table)
-        → f ≡ crashCount (instanceOf table .pattern) (statesIn (table .n) run) → size ≤ length before
-        → after ≡ resultLines (runOver (table .n) (run .ends) (run .ended) (run .values) (run .rounds) (run .speakers) (run .sent) (run .commits)) f
+        → f ≡ crashCount (faultsBy (table .n) (table .rounds)) (statesBy (table .n) (run .ends) (run .«end_rounds»)) → size ≤ length before
+        → after ≡ resultLines (runOver (table .n) (run .ends) (run .«end_rounds») (run .values) (run .rounds) (run .speakers) (run .«data_sent») (run .«commits_sent»)) f
         ++ drop (resultSize (table .n)) before
         → Ran text before after (Written size)
     unfolding answerOf bufferAfter instanceOf

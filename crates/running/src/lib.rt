@@ -28,23 +28,33 @@ fn run_rest(text: &[u8], n: u8, t: u8, at: usize, out: &mut [u8]) -> RunAnswer
     if let Answer::Refused(number, line) = answer {
         return RunAnswer::Refused(number, line);
     }
-    let size = result::result_size(read.table.n);
+    let table = read.table;
+    let size = result::result_size(table.n);
     if out.len() < size {
         return RunAnswer::Refused(9, 0);
     }
-    let run = rounds::run_all(read.table);
-    let f = rounds::crash_count(read.table, run);
+    let values = table.values;
+    let run = coordinator_run::run_all(
+        table.n,
+        table.t,
+        values,
+        &table.rounds,
+        &table.steps,
+        &table.sets,
+        &table.counts,
+    );
+    let f = coordinator_run::crash_count(table.n, &table.rounds, &run.ends, &run.end_rounds);
     result::write_result(
         out,
         read.table.n,
         &run.ends,
-        &run.ended,
+        &run.end_rounds,
         &run.values,
         run.rounds,
         f,
         run.speakers,
-        run.sent,
-        run.commits,
+        run.data_sent,
+        run.commits_sent,
     );
     RunAnswer::Written(size)
 }
@@ -70,7 +80,17 @@ fn settle_rest(text: &[u8], n: u8, t: u8, at: usize) -> SettleAnswer
     if let Answer::Refused(number, line) = answer {
         return SettleAnswer::Unsettled(number, line);
     }
-    let run = rounds::run_all(read.table);
+    let table = read.table;
+    let values = table.values;
+    let run = coordinator_run::run_all(
+        table.n,
+        table.t,
+        values,
+        &table.rounds,
+        &table.steps,
+        &table.sets,
+        &table.counts,
+    );
     SettleAnswer::Round(run.rounds)
 }
 

@@ -10,9 +10,8 @@ use Rattle.general.proofs.Indexed.{length-mapFrom, mapFrom-at}
 use Rattle.consensus.specs.Instance.{correct, faultOf}
 use Rattle.consensus.specs.State.{crashed, stateOf}
 use Rattle.tables.specs.declared.InstanceTable.{InstanceTable}
-use Rattle.tables.specs.declared.RunTable.{RunTable}
 use Rattle.tables.specs.InstanceOfTable.{faultFrom, faultIn, instanceOf}
-use Rattle.tables.specs.RunOfTable.{stateByEnd, stateIn, statesIn}
+use Rattle.tables.specs.RunOfTable.{stateByEnd, stateOver, statesOver}
 
 -- How many processes a table has, and how many may crash.
 pub processes-of : (x : InstanceTable) → instanceOf x .processes ≡ x .n
@@ -45,12 +44,13 @@ pub fault-at : (x : InstanceTable) (p : ℕ) → x .n ≤ length (x .rounds) →
 unfolding faultOf instanceOf faultIn
 fault-at x p fits h g = at-process (faultIn x) (x .n) (x .rounds) fits p correct h g
 
--- The state of process p in a table.
-pub state-in : (n : ℕ) (run : RunTable) (p : ℕ) → n ≤ length (run .ends) → 1 ≤ p → p ≤ n
-    → stateOf (statesIn n run) p ≡ stateByEnd (getD (run .ends) (p - 1) 0) (getD (run .ended) (p - 1) 0) (getD (run .values) (p - 1) 0)
-unfolding stateOf statesIn stateIn
-state-in n run p fits h g = at-process (stateIn run) n (run .ends) fits p (crashed 0) h g
+-- Arrays have a state for each process, and this is that of process p.
+module _ (n : ℕ) (ends endRounds values : List ℕ) (fits : n ≤ length ends) where
+  pub length-states-over : length (statesOver n ends endRounds values) ≡ n
+  unfolding statesOver
+  length-states-over = length-reading (stateOver endRounds values) n ends fits
 
-pub length-statesIn : (n : ℕ) (run : RunTable) → n ≤ length (run .ends) → length (statesIn n run) ≡ n
-unfolding statesIn
-length-statesIn n run fits = length-reading (stateIn run) n (run .ends) fits
+  pub state-over : (p : ℕ) → 1 ≤ p → p ≤ n
+      → stateOf (statesOver n ends endRounds values) p ≡ stateByEnd (getD ends (p - 1) 0) (getD endRounds (p - 1) 0) (getD values (p - 1) 0)
+  unfolding stateOf statesOver stateOver
+  state-over p h g = at-process (stateOver endRounds values) n ends fits p (crashed 0) h g

@@ -1,11 +1,17 @@
 -- The instance that a table stands for (document 01, 'The ticket': n, t, the proposals and the failure lines with round, step, set and count).
 use Prim.Native.Nat.{ℕ, _-_}
 use mathlib.Core.Bool.{cond}
+use mathlib.Core.List.{List}
 use lib.Dec.{eqb}
 use lib.ListN.{getD, take}
 use Rattle.general.specs.Indexed.{mapFrom}
 use Rattle.consensus.specs.Instance.{Instance, Fault, correct, crashes, pointFrom}
 use Rattle.tables.specs.declared.InstanceTable.{InstanceTable}
+
+-- The table that holds these numbers and arrays, as they are lent one by one.
+abbrev pub tableOf : (n t : ℕ) → (values rounds steps sets counts : List ℕ) → InstanceTable
+tableOf n t values rounds steps sets counts =
+    record { n = n; t = t; values = values; rounds = rounds; steps = steps; sets = sets; counts = counts }
 
 -- The fault that a crash round, a step, a set and a count stand for: round 0 is none.
 unfoldable pub faultFrom : (round step reached count : ℕ) → Fault

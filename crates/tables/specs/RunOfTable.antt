@@ -14,13 +14,17 @@ use Rattle.tables.specs.declared.RunTable.{RunTable}
 unfoldable pub stateByEnd : (end round value : ℕ) → State
 stateByEnd end round value = cond (eqb end 0) (undecided value) (cond (eqb end 1) (decided round value) (crashed round))
 
--- The state of process p in a table, of which this is the end.
-unfoldable pub stateIn : RunTable → ℕ → ℕ → State
-stateIn run p end = stateByEnd end (getD (run .ended) (p - 1) 0) (getD (run .values) (p - 1) 0)
+-- The state of process p by the rounds of the ends and the values of all, of which this is the end.
+unfoldable pub stateOver : (endRounds values : List ℕ) → ℕ → ℕ → State
+stateOver endRounds values p end = stateByEnd end (getD endRounds (p - 1) 0) (getD values (p - 1) 0)
 
--- The states of the first n processes.
-unfoldable pub statesIn : ℕ → RunTable → List State
-statesIn n run = mapFrom (stateIn run) 1 (take n (run .ends))
+-- The states of the first n processes, by the ends, the rounds of these and the values.
+unfoldable pub statesOver : ℕ → (ends endRounds values : List ℕ) → List State
+statesOver n ends endRounds values = mapFrom (stateOver endRounds values) 1 (take n ends)
+
+-- The same in a table.
+abbrev pub statesIn : ℕ → RunTable → List State
+statesIn n run = statesOver n (run .ends) (run .«end_rounds») (run .values)
 
 -- The run of n processes.
 unfoldable pub runFrom : ℕ → RunTable → Run
@@ -29,6 +33,6 @@ runFrom n run =
       states = statesIn n run;
       rounds = run .rounds;
       speakers = run .speakers;
-      dataSent = run .sent;
-      commitsSent = run .commits;
+      dataSent = run .«data_sent»;
+      commitsSent = run .«commits_sent»;
     }

@@ -20,14 +20,14 @@ pub const DECIDED: u8 = 1;
 pub const CRASHED: u8 = 2;
 
 // Document 01: the table of 64 stations, with each one's value, round and end (00 undecided, 01 decided, 02 crashed); and what the run has counted.
-// `ended` is the round of each end, and `sent` the data messages. `undecided` is the set of the processes up and undecided: bit p - 1 just if end p is 00.
+// `undecided` is the set of the processes up and undecided: bit p - 1 just if end p is 00.
 pub struct RunTable {
     pub ends: [u8; 64],
-    pub ended: [u8; 64],
+    pub end_rounds: [u8; 64],
     pub values: [u32; 64],
     pub rounds: u8,
     pub speakers: u8,
-    pub sent: u16,
-    pub commits: u16,
+    pub data_sent: u16,
+    pub commits_sent: u16,
     pub undecided: u64,
 }

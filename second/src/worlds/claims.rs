@@ -34,7 +34,7 @@ pub enum Claim {
     SpeakersWithinBound,
     /// Data and commits are at most k(2n − k − 1) − k(k − 1)/2.
     MessagesWithinBound,
-    /// The run's rounds are the last that began with a process up and undecided.
+    /// The run's rounds are those that began with a process up and undecided.
     CountsRounds,
     /// Speakers are the coordinators that began their own round up and undecided.
     CountsSpeakers,
@@ -123,8 +123,9 @@ impl Claim {
             Claim::CountsRounds => {
                 let undecided =
                     |states: &[State]| states.iter().any(|&state| right::is_undecided(state));
-                let began = (1..).zip(rounds(run)).filter(|(_, states)| undecided(states));
-                run.counts.rounds == began.last().map_or(0, |(round, _)| round)
+                (1..).zip(rounds(run)).all(|(round, states)| {
+                    undecided(states) == (rules.is_of_run)(round, run.counts.rounds)
+                })
             }
             Claim::CountsSpeakers => {
                 let own = rounds(run).enumerate().map(|(round, states)| states[round]);

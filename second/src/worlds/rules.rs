@@ -60,6 +60,8 @@ pub struct Rules {
     /// Whether the values held are one.
     pub one_value: fn(&[u32]) -> bool,
 
+    /// Claim: whether a round is one of a run that has so many rounds.
+    pub is_of_run: fn(round: u8, rounds: u8) -> bool,
     /// Claim: the last round in which a process may decide, from f.
     pub latest: fn(u8) -> u8,
     /// Claim: whether one that decides in a round decides by the latest.
@@ -108,6 +110,7 @@ pub const RIGHT: Rules = Rules {
     settled_at_end_of: |round| round,
     value_held: |state, _| right::value_held(state),
     one_value: |values| values.iter().all(|value| *value == values[0]),
+    is_of_run: |round, rounds| round <= rounds,
     latest: |f| f + 1,
     decides_by: |round, latest| round <= latest,
     f_of_crashed: |crashed| crashed,

@@ -444,6 +444,11 @@ const CLAIMED: &[World] = &[
         Rules { f_of_crashed: |crashed| crashed + 1, ..RIGHT },
     ),
     world(
+        "coordinator/a-round-after-the-end",
+        &[CountsRounds],
+        Rules { is_of_run: |round, rounds| round <= rounds + 1, ..RIGHT },
+    ),
+    world(
         "coordinator/one-round-more-to-decide",
         &[WorkedRun("case 1")],
         Rules { latest: |f| f + 2, ..RIGHT },

@@ -3,19 +3,19 @@ use Prim.Native.Nat.{_+_, _-_, _≤_}
 use Rattle.result.proofs.ResultLine.{line-of, withLines, length-with, with-none, with-all, with-more}
 use Rattle.result.proofs.put_process_lines.Statement.{statement}
 use Rattle.result.proofs.put_process_lines.Tie as tie
-use Rattle.result.proofs.RunOver.{state-over-at, length-statesOver}
-use Rattle.result.specs.RunOver.{statesOver}
+use Rattle.tables.specs.RunOfTable.{statesOver}
+use Rattle.tables.proofs.Places.{length-states-over, state-over}
 use borrow.Author.Needs.{needs}
 use lib.ListN.{length}
 use mathlib.Core.Path.{_≡_, refl, sym, ap, _∙_}
 use native.Mathlib.Omega.{arith}
 
 abbrev Inv-loop : tie.InvT-loop
-Inv-loop out₀ n ends ended values i₀ out i =
-    (i ≤ n) × (n ≤ length ends) × (length out ≡ length out₀) × (out ≡ withLines (statesOver n ends ended values) out₀ i)
+Inv-loop out₀ n ends endRounds values i₀ out i =
+    (i ≤ n) × (n ≤ length ends) × (length out ≡ length out₀) × (out ≡ withLines (statesOver n ends endRounds values) out₀ i)
 
 abbrev μ-loop : tie.MeasureT-loop
-μ-loop out₀ n ends ended values i₀ out i = n - i
+μ-loop out₀ n ends endRounds values i₀ out i = n - i
 
 loop-holds : tie.Need-loop-holds Inv-loop μ-loop
 loop-holds c = (omega arith, omega arith, refl, sym (with-none _ _))
@@ -72,12 +72,14 @@ loop-again c =
     let asked = line .before .before .before in
     let turn = asked .before .before in
     let start = turn .before .before .args in
-    let states = statesOver (start .n) (start .ends .now) (start .ended .now) (start .values .now) in
+    let states = statesOver (start .n) (start .ends .now) (start .end-rounds .now) (start .values .now) in
     let inv = turn .loop .inv in
-    let size : length states ≡ start .n = length-statesOver (start .n) (start .ends .now) (start .ended .now) (start .values .now) (inv .1) in
-    let state = state-over-at (start .n) (start .ends .now) (start .ended .now) (start .values .now) (inv .1) (turn .loop .i) (omega arith) in
+    let size : length states ≡ start .n = length-states-over (start .n) (start .ends .now) (start .end-rounds .now) (start .values .now) (inv .1) in
+    let state = state-over (start .n) (start .ends .now) (start .end-rounds .now) (start .values .now) (inv .1) (turn .loop .i + 1)
+    (omega arith) (omega arith) in
+    let place : turn .loop .i + 1 - 1 ≡ turn .loop .i = omega arith in
     let more = with-more states (start .out .now) (turn .loop .i) (turn .loop .out) _ _ (omega arith) (omega arith) (inv .3)
-    (line-of _ _ _ _ (line .process-bytes .ensures) state)
+    (line-of _ _ _ _ (line .process-bytes .ensures) (rw place at state))
     (written .put-line .ensures) in
     (omega arith, inv .1, ap length more ∙ length-with states (start .out .now) (turn .loop .i + 1) (omega arith) (omega arith), more)
 
@@ -89,7 +91,7 @@ returns c =
     let start = c .before .before .before .args in
     let inv = c .before .loop .inv in
     let last : c .before .loop .i ≡ start .n = omega arith in
-    inv .3 ∙ rw last (with-all _ _ (start .n) (length-statesOver (start .n) _ _ _ (inv .1)))
+    inv .3 ∙ rw last (with-all _ _ (start .n) (length-states-over (start .n) _ _ _ (inv .1)))
 
 pub put-process-lines-spec : {M : Type 1} → statement M
 put-process-lines-spec =

@@ -1,6 +1,6 @@
 -- `result::write_result` meets its contract: the lines of the processes, then the last line in the part that follows them. Assumes nothing.
 use Rattle.result.proofs.ResultLine.{result-written}
-use Rattle.result.proofs.RunOver.{length-statesOver}
+use Rattle.tables.proofs.Places.{length-states-over}
 use Rattle.result.proofs.write_result.Statement.{statement}
 use Rattle.result.proofs.write_result.Tie as tie
 use Rattle.result.specs.RunOver.{runOver}
@@ -52,8 +52,9 @@ returns c =
     let lines = last .before .before .before in
     let start = lines .before .before .before in
     let args = start .args in
-    result-written (runOver (args .n) (args .ends .now) (args .ended .now) (args .values .now) (args .rounds) (args .speakers) (args .sent) (args .commits))
-    (args .f) (args .n) (length-statesOver (args .n) (args .ends .now) (args .ended .now) (args .values .now) (start .pre .1))
+    result-written (runOver (args .n) (args .ends .now) (args .end-rounds .now) (args .values .now) (args .rounds) (args .speakers) (args .data-sent)
+    (args .commits-sent))
+    (args .f) (args .n) (length-states-over (args .n) (args .ends .now) (args .end-rounds .now) (args .values .now) (start .pre .1))
     (args .out .now) _ _ _
     (start .pre .2)
     (lines .put-process-lines .ensures)

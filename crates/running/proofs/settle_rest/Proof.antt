@@ -24,15 +24,20 @@ enum-told : tie.Need-enum-told
 enum-told c = search needs
 
 -- Past the first return the ticket is accepted, with the instance of the table.
-ticket-read : (c : tie.After-enum-told)
-    → readTicket (c .before .before .before .before .args .text .now) ≡ accepted (instanceOf (c .before .before .read-rest .result .table))
-ticket-read c = read-accepted _ _ (c .before .before .read-rest .ensures) (c .enum-told .given .1)
+ticket-read : (c : tie.After-table)
+    → let told = c .before .before .before in
+    readTicket (told .before .before .args .text .now) ≡ accepted (instanceOf (told .read-rest .result .table))
+ticket-read c = let told = c .before in read-accepted _ _ (told .before .before .read-rest .ensures) (told .enum-told .given .1)
+
+-- Where the rounds are run the table is there.
+abbrev read : tie.After-run-all-arg4 → tie.After-table
+read c = let values = c .before .before .before .before .before in values .before
 
 run-all-requires : tie.Need-run-all-requires
-run-all-requires c κs = accepted-well-formed _ _ (ticket-read c)
+run-all-requires c κs = accepted-well-formed _ _ (ticket-read (read c))
 
 returns-2 : tie.Need-returns-2
-returns-2 c = settles-last _ _ _ (ticket-read (c .before)) (c .run-all .ensures)
+returns-2 c = settles-last _ _ _ (ticket-read (read (c .before))) (c .run-all .ensures)
 
 pub settle-rest-spec : {M : Type 1} → statement M
 settle-rest-spec =

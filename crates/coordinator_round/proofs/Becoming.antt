@@ -1,0 +1,92 @@
+-- What one process becomes in a round, from what the code stores of it by its membership in the round's sets. Assumes nothing.
+use mathlib.Core.Path.{_≡_, refl, sym, _∙_}
+use mathlib.Core.Bool.{Bool, true, false, cond, not, _&&_, _||_, false≢true}
+use Prim.Native.Nat.{ℕ}
+use native.Mathlib.Omega.{arith}
+use lib.Dec.{eqb}
+use borrow.Author.Tests.{eqb-true}
+use Rattle.coordinator.specs.Message.{Messages, nothing, Reach, none, dataOnly, all, arriving, getsData, getsCommit}
+use Rattle.consensus.specs.Instance.{Fault}
+use Rattle.coordinator.specs.Transition.{sends, receives}
+use Rattle.consensus.specs.State.{State, undecided, decided, crashed, crashesIn}
+use Rattle.coordinator.specs.Round.{sentBy, afterOutcome, after}
+use Rattle.coordinator.specs.Undecided.{isUndecided}
+use Rattle.coordinator.proofs.Ended.{after-ended}
+use Rattle.tables.specs.RunOfTable.{stateByEnd}
+
+-- An end of 0 is that of a process up and undecided, and what such a process sends in its round.
+module _ (end endRound value : ℕ) where
+  pub undecided-end : isUndecided (stateByEnd end endRound value) ≡ eqb end 0
+  unfolding isUndecided stateByEnd
+  undecided-end = by-end (eqb end 0) (eqb end 1)
+    where
+      by-end : (b c : Bool) → isUndecided (cond b (undecided value) (cond c (decided endRound value) (crashed endRound))) ≡ b
+      by-end true c = refl
+      by-end false true = refl
+      by-end false false = refl
+
+  pub sent-by-end : sentBy (stateByEnd end endRound value) ≡ cond (eqb end 0) (sends true value) nothing
+  unfolding sentBy stateByEnd
+  sent-by-end = by-end (eqb end 0) (eqb end 1)
+    where
+      by-end : (b c : Bool) → sentBy (cond b (undecided value) (cond c (decided endRound value) (crashed endRound))) ≡ cond b (sends true value) nothing
+      by-end true c = refl
+      by-end false true = refl
+      by-end false false = refl
+
+-- Whether a process is in the sets of a round: up, undecided and not crashing in it; deciding; adopting the coordinator's value.
+-- It is undecided as the round begins, its crash round is this one, the coordinator speaks, it coordinates, and the messages to it get so far.
+abbrev pub lives : (waits dies : Bool) → Bool
+lives waits dies = cond waits (not (waits && dies)) (waits && dies)
+
+abbrev pub decides : (waits dies speaks coordinates : Bool) → Reach → Bool
+decides waits dies speaks coordinates far = lives waits dies && ((speaks && coordinates) || (speaks && getsCommit far))
+
+abbrev pub adopts : (waits dies speaks : Bool) → Reach → Bool
+adopts waits dies speaks far = lives waits dies && (speaks && getsData far)
+
+-- What the code stores of it, in round r, with the coordinator's value w.
+abbrev pub storedState : (r w end endRound value : ℕ) (waits dies speaks coordinates : Bool) → Reach → State
+storedState r w end endRound value waits dies speaks coordinates far =
+    stateByEnd (cond (waits && dies) 2 (cond (decides waits dies speaks coordinates far) 1 end))
+    (cond (decides waits dies speaks coordinates far || (waits && dies)) r endRound) (cond (adopts waits dies speaks far) w value)
+
+-- Process p, with the fault `own`, in round r.
+module _ (r p w endRound value : ℕ) (own : Fault) where
+  abbrev heard : Reach → Bool → Messages
+  heard far speaks = arriving far (cond speaks (sends true w) nothing)
+
+  -- One up and undecided.
+  become : (dies speaks coordinates : Bool) (far : Reach) → crashesIn r own ≡ dies → eqb p r ≡ coordinates
+      → (coordinates ≡ true → speaks ≡ true) → (coordinates ≡ true → far ≡ none)
+      → storedState r w 0 endRound value true dies speaks coordinates far ≡ after r p own (heard far speaks) (stateByEnd 0 endRound value)
+  unfolding stateByEnd after afterOutcome receives arriving sends getsData getsCommit
+  become true speaks coordinates far e c one two = rw e
+  become false false true far e c one two = absurd (false≢true (one refl))
+  become false false false none e c one two = rw (e, c)
+  become false false false dataOnly e c one two = rw (e, c)
+  become false false false all e c one two = rw (e, c)
+  become false true true none e c one two = rw (e, c)
+  become false true true dataOnly e c one two = absurd (let z : _≡_ {A = ℕ} 0 1 = cc (two refl) in omega arith)
+  become false true true all e c one two = absurd (let z : _≡_ {A = ℕ} 0 1 = cc (two refl) in omega arith)
+  become false true false none e c one two = rw (e, c)
+  become false true false dataOnly e c one two = rw (e, c)
+  become false true false all e c one two = rw (e, c)
+
+  -- Any process.
+  pub becomes : (end : ℕ) (waits dies speaks coordinates : Bool) (far : Reach) → eqb end 0 ≡ waits → crashesIn r own ≡ dies → eqb p r ≡ coordinates
+      → (coordinates ≡ true → speaks ≡ waits) → (coordinates ≡ true → far ≡ none)
+      → storedState r w end endRound value waits dies speaks coordinates far ≡ after r p own (heard far speaks) (stateByEnd end endRound value)
+  becomes end true dies speaks coordinates far u e c one two = rw (eqb-true end 0 u) (become dies speaks coordinates far e c one two)
+  becomes end false dies speaks coordinates far u e c one two =
+      sym (after-ended r p own (heard far speaks) (stateByEnd end endRound value) (rw (undecided-end end endRound value) u))
+
+-- It is still undecided just if it lives and does not decide.
+pub still-undecided : (end endRound value : ℕ) (waits dies decides : Bool) → eqb end 0 ≡ waits
+    → cond (lives waits dies) (not (lives waits dies && decides)) (lives waits dies && decides)
+    ≡ isUndecided (stateByEnd (cond (waits && dies) 2 (cond (lives waits dies && decides) 1 end)) endRound value)
+unfolding isUndecided stateByEnd
+still-undecided end endRound value false dies decides u = sym u ∙ sym (undecided-end end endRound value)
+still-undecided end endRound value true true decides u = refl
+still-undecided end endRound value true false true u = refl
+still-undecided end endRound value true false false u = sym u ∙ sym (undecided-end end endRound value)

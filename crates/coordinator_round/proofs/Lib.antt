@@ -1,0 +1,3 @@
+pub mod Becoming
+pub mod Stored
+pub mod RoundDone

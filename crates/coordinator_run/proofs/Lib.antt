@@ -1,0 +1,4 @@
+pub mod Reading
+pub mod CrashSets
+pub mod Crashes
+pub mod Whole

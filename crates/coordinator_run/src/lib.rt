@@ -1,0 +1,121 @@
+// The rounds of an instance one after the other, until no process is both up and undecided (document 01, 'A round'), and f.
+// The instance's arrays are lent; the run is a table by value that goes through each round and comes back.
+ghost use mathlib.Core.List.{[]};
+ghost use mathlib.Core.Path.{_≡_};
+ghost use Prim.Native.Nat.{_+_, _≤_};
+ghost use lib.ListN.{length};
+ghost use Rattle.consensus.specs.CrashCount.{crashCount};
+ghost use Rattle.coordinator.specs.Run.{runTo, runOf};
+ghost use Rattle.coordinator.specs.WellFormed.{WellFormed};
+ghost use Rattle.tables.specs.InstanceOfTable.{tableOf, instanceOf};
+ghost use Rattle.tables.specs.RunOfTable.{statesOver, runFrom};
+ghost use Rattle.coordinator_run.specs.CrashSets.{CrashSets};
+use coordinator_sending::count;
+use tables::RunTable;
+
+// The sets of the processes, of n, that have the same crash round, that of round r at place r - 1. No run has a round above 64.
+fn crash_sets(n: u8, crash_rounds: &[u8; 64]) -> [u64; 64]
+    requires { ⌜ n ≤ 64 ⌝ }
+    ensures { λ sets. ⌜ CrashSets n (now («crash_rounds» .entry)) sets ⌝ }
+{
+    let mut by_round = [0u64; 64];
+    let mut p: u8 = 1;
+    while p <= n {
+        let own = crash_rounds[(p - 1) as usize];
+        if 0 < own {
+            if own <= 64 {
+                let i = (own - 1) as usize;
+                by_round[i] = by_round[i] | sets::only(p);
+            }
+        }
+        p += 1;
+    }
+    by_round
+}
+
+// The run after rounds 1 to `last`, or after the earlier round by which no process is both up and undecided. Before round 1 every process holds its proposal.
+pub fn run_to<'a>(
+    n: u8,
+    t: u8,
+    values: [u32; 64],
+    last: u8,
+    crash_rounds: &'a [u8; 64],
+    steps: &'a [u8; 64],
+    reached: &'a [u64; 64],
+    counts: &'a [u8; 64],
+) -> RunTable
+    requires { ⌜ WellFormed (instanceOf (tableOf n t values (now «crash_rounds») (now steps) (now reached) (now counts))) × (last ≤ t + 1) ⌝ }
+    ensures { λ run. ⌜ runFrom n run
+        ≡ runTo (instanceOf (tableOf n t values (now («crash_rounds» .entry)) (now (steps .entry)) (now (reached .entry)) (now (counts .entry)))) last ⌝ }
+{
+    let dying = crash_sets(n, crash_rounds);
+    let mut run = RunTable {
+        ends: [tables::UNDECIDED; 64],
+        end_rounds: [0; 64],
+        values: values,
+        rounds: 0,
+        speakers: 0,
+        data_sent: 0,
+        commits_sent: 0,
+        undecided: sets::first_processes(n),
+    };
+    let mut r: u8 = 1;
+    while r <= last {
+        if run.undecided == 0 {
+            return run;
+        }
+        let i = (r - 1) as usize;
+        run = coordinator_round::run_round(
+            n,
+            r,
+            crash_rounds[i],
+            steps[i],
+            reached[i],
+            counts[i],
+            dying[i],
+            run,
+        );
+        r += 1;
+    }
+    run
+}
+
+// The whole run: rounds 1 to t + 1.
+pub fn run_all<'a>(
+    n: u8,
+    t: u8,
+    values: [u32; 64],
+    crash_rounds: &'a [u8; 64],
+    steps: &'a [u8; 64],
+    reached: &'a [u64; 64],
+    counts: &'a [u8; 64],
+) -> RunTable
+    requires { ⌜ WellFormed (instanceOf (tableOf n t values (now «crash_rounds») (now steps) (now reached) (now counts))) ⌝ }
+    ensures { λ run. ⌜ runFrom n run
+        ≡ runOf (instanceOf (tableOf n t values (now («crash_rounds» .entry)) (now (steps .entry)) (now (reached .entry)) (now (counts .entry)))) ⌝ }
+{
+    run_to(n, t, values, t + 1, crash_rounds, steps, reached, counts)
+}
+
+// f: the failure lines that are not idle, given the last states. Steps, sets, counts and values do not matter: the definition is taken at none.
+// (That the arrays have so many places is in their types; a proof is not told so of an array that is lent, so the contract says it.)
+pub fn crash_count<'a>(
+    n: u8,
+    crash_rounds: &'a [u8; 64],
+    ends: &'a [u8; 64],
+    end_rounds: &'a [u8; 64],
+) -> u8
+    requires { ⌜ (n ≤ 64) × (n ≤ length (now «crash_rounds»)) × (n ≤ length (now ends)) ⌝ }
+    ensures { λ f. ⌜ f
+        ≡ crashCount (instanceOf (tableOf n 0 [] (now («crash_rounds» .entry)) [] [] []) .pattern)
+        (statesOver n (now (ends .entry)) (now («end_rounds» .entry)) []) ⌝ }
+{
+    let mut f: u8 = 0;
+    let mut p: u8 = 1;
+    while p <= n {
+        let i = (p - 1) as usize;
+        f += count::counts_as_crash(crash_rounds[i], ends[i], end_rounds[i]);
+        p += 1;
+    }
+    f
+}

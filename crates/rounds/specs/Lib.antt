@@ -1,2 +1,0 @@
-pub mod CrashSets
-pub mod Round
