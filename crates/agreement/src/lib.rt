@@ -36,7 +36,7 @@ pub extern "C" fn uc_settle(ticket: &[u8]) -> u64
     let answer = running::settle(ticket);
     match answer {
         SettleAnswer::Round(round) => round as u64,
-        SettleAnswer::Unsettled(number, line) => refusal_code(number, line),
+        SettleAnswer::Refused(number, line) => refusal_code(number, line),
     }
 }
 
