@@ -6,11 +6,11 @@ use native.Mathlib.Omega.{arith}
 use Rattle.formats.specs.Reading.{Reading, accepted, refused}
 use Rattle.formats.specs.Ticket.{readTicket}
 use Rattle.formats.specs.Settle.{Settles}
-use Rattle.running.specs.Answer.{answerOf, settlingOf}
+use Rattle.running.specs.Answer.{answerOf}
+use Rattle.running.specs.Settling.{settlingOf}
 use Rattle.running.specs.declared.RunAnswer.{RunAnswer}
 use Rattle.running.specs.declared.RunAnswer.the-variants.{Written, Refused}
 use Rattle.running.specs.declared.SettleAnswer.{SettleAnswer}
-use Rattle.running.specs.declared.SettleAnswer.the-variants.{Round, Unsettled}
 use Rattle.formats.specs.Code.{refusalCode, runCode, settleCode, SettlesAs}
 
 module _ (answer : RunAnswer) where
@@ -34,10 +34,10 @@ settled-code : (text : List ℕ) (answer : SettleAnswer) (code : ℕ) → Settle
 settled-code text answer code s c = record { answer = settlingOf answer; settles = s; coded = c }
 
 module _ (text : List ℕ) (answer : SettleAnswer) (settles : Settles (readTicket text) (settlingOf answer)) where
-  pub round-code : (r : ℕ) → answer ≡ Round r → SettlesAs text r
+  pub round-code : (r : ℕ) → answer ≡ SettleAnswer.Round r → SettlesAs text r
   unfolding settlingOf settleCode
   round-code r e = settled-code text answer r settles (rw e refl)
 
-  pub unsettled-code : (number line code : ℕ) → answer ≡ Unsettled number line → code ≡ refusalCode number line → SettlesAs text code
+  pub settle-refused-code : (number line code : ℕ) → answer ≡ SettleAnswer.Refused number line → code ≡ refusalCode number line → SettlesAs text code
   unfolding settlingOf settleCode
-  unsettled-code number line code e c = settled-code text answer code settles (rw e c)
+  settle-refused-code number line code e c = settled-code text answer code settles (rw e c)

@@ -42,7 +42,7 @@ pub extern "C" fn uc_settle(ticket: &[u8]) -> u64
     let answer = running::settle(ticket);
     match answer {
         SettleAnswer::Round(round) => round as u64,
-        SettleAnswer::Unsettled(number, line) => refusal_code(0, number, line),
+        SettleAnswer::Refused(number, line) => refusal_code(0, number, line),
     }
 }
 

@@ -92,8 +92,8 @@ module _ (f f′ : ℕ → ℕ → Fault) (g g′ : ℕ → ℕ → State)
   counts-alike p (own ∷ rounds) (end ∷ ends) = ap₂ (λ (a b : ℕ). a + b) (alike p own end) (counts-alike (suc p) rounds ends)
 
 -- Which messages a crash cuts and which values are held does not matter to f.
-pub counts-by-rounds : (x : InstanceTable) (run : RunTable) → crashCount (faultsBy (x .n) (x .rounds)) (statesBy (x .n) (run .ends) (run .«end_rounds»))
+pub counts-by-rounds : (x : InstanceTable) (run : RunTable) → crashCount (faultsBy (x .n) (x .«crash_rounds»)) (statesBy (x .n) (run .ends) (run .«end_rounds»))
     ≡ crashCount (instanceOf x .pattern) (statesIn (x .n) run)
 unfolding instanceOf statesOver faultIn stateOver
 counts-by-rounds x run =
-    counts-alike _ _ _ _ (λ p own end. sym (by-round-and-end _ _ _ _ _ _ _)) 1 (take (x .n) (x .rounds)) (take (x .n) (run .ends))
+    counts-alike _ _ _ _ (λ p own end. sym (by-round-and-end _ _ _ _ _ _ _)) 1 (take (x .n) (x .«crash_rounds»)) (take (x .n) (run .ends))

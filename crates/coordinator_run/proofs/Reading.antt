@@ -13,6 +13,6 @@ module _ (x : InstanceTable) (w : WellFormed (instanceOf x)) where
   limits = (w .some-process, w .at-most-64, w .fewer-crashes)
 
   -- There is a crash round for each process.
-  pub rounds-fit : x .n ≤ length (x .rounds)
+  pub rounds-fit : x .n ≤ length (x .«crash_rounds»)
   unfolding instanceOf
-  rounds-fit = omega (arith, w .all-have-fault, length-mapFrom (faultIn x) 1 (take (x .n) (x .rounds)), length-take (x .n) (x .rounds))
+  rounds-fit = omega (arith, w .all-have-fault, length-mapFrom (faultIn x) 1 (take (x .n) (x .«crash_rounds»)), length-take (x .n) (x .«crash_rounds»))

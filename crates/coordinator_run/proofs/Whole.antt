@@ -33,7 +33,7 @@ pub record AtRound (x : InstanceTable) (last : ℕ) (dying : List ℕ) (run : Ru
   pub well-formed : WellFormed (instanceOf x)
   pub last-process : last ≤ x .n
   pub at-most-64 : x .n ≤ 64
-  pub crashing : CrashSets (x .n) (x .rounds) dying
+  pub crashing : CrashSets (x .n) (x .«crash_rounds») dying
   pub first : 1 ≤ r
   pub at-most : r ≤ last + 1
   pub kept : run .undecided ≡ undecidedSet (x .n) run
@@ -41,7 +41,7 @@ pub record AtRound (x : InstanceTable) (last : ℕ) (dying : List ℕ) (run : Ru
 
 -- The fault that a table's numbers stand for.
 abbrev numbered : InstanceTable → ℕ → Fault
-numbered x p = faultFrom (getD (x .rounds) (p - 1) 0) (getD (x .steps) (p - 1) 0) (getD (x .sets) (p - 1) 0) (getD (x .counts) (p - 1) 0)
+numbered x p = faultFrom (getD (x .«crash_rounds») (p - 1) 0) (getD (x .steps) (p - 1) 0) (getD (x .reached) (p - 1) 0) (getD (x .counts) (p - 1) 0)
 
 module _ (x : InstanceTable) (w : WellFormed (instanceOf x)) where
   its-fault : (p : ℕ) → 1 ≤ p → p ≤ x .n → faultOf (instanceOf x) p ≡ numbered x p
@@ -49,7 +49,7 @@ module _ (x : InstanceTable) (w : WellFormed (instanceOf x)) where
 
 -- A table whose ends and counts are 0 and whose values are the proposals is that of the run as round 1 begins.
 module _ (x : InstanceTable) (last : ℕ) (dying : List ℕ) (run : RunTable) (w : WellFormed (instanceOf x)) (within : last ≤ x .t + 1)
-    (crashing : CrashSets (x .n) (x .rounds) dying) (entries : length (run .ends) ≡ 64)
+    (crashing : CrashSets (x .n) (x .«crash_rounds») dying) (entries : length (run .ends) ≡ 64)
     (none-ended : (i : ℕ) → i < 64 → getD (run .ends) i 0 ≡ 0) (values : run .values ≡ x .values) where
   fits : x .n ≤ length (run .ends)
   fits = omega (arith, limits x w, entries)

@@ -10,7 +10,6 @@ use lib.ListN.{length, drop}
 use Rattle.consensus.specs.Instance.{Instance}
 use Rattle.consensus.specs.CrashCount.{crashCount}
 use Rattle.coordinator.specs.Run.{Run, runOf, crashesOf}
-use Rattle.coordinator.specs.WellFormed.{WellFormed}
 use Rattle.coordinator.specs.Settling.{qualifies}
 use Rattle.coordinator.proofs.Settled.{settled-at-last}
 use Rattle.tables.specs.InstanceOfTable.{instanceOf}
@@ -19,29 +18,19 @@ use Rattle.tables.specs.declared.RunTable.{RunTable}
 use Rattle.tables.specs.RunOfTable.{runFrom}
 use Rattle.formats.specs.Reading.{Reading, accepted, refused}
 use Rattle.formats.specs.Ticket.{readTicket}
-use Rattle.ticket.specs.Answer.{readingFrom, readingOf}
-use Rattle.ticket.specs.declared.Answer.{Answer}
-use Rattle.ticket.specs.declared.TicketRead.{TicketRead}
 use Rattle.formats.proofs.WellFormed.{accepted-well-formed}
 use Rattle.formats.specs.ResultLine.{resultText, resultLines, resultSize}
 use Rattle.formats.proofs.ResultLength.{length-text}
 use Rattle.formats.specs.Running.{resultIn, running, bufferAfter}
 use Rattle.formats.specs.Settle.{Settles}
+use Rattle.coordinator_run.proofs.Crashes.{faultsBy, statesBy, counts-by-rounds}
 use Rattle.result.specs.RunOver.{runOver}
 use Rattle.result.proofs.RunOver.{run-over}
-use Rattle.coordinator_run.proofs.Crashes.{faultsBy, statesBy, counts-by-rounds}
-use Rattle.running.specs.Answer.{answerOf, Ran, settlingOf}
+use Rattle.running.specs.Answer.{answerOf, Ran}
+use Rattle.running.specs.Settling.{settlingOf}
 use Rattle.running.specs.declared.RunAnswer.{RunAnswer}
 use Rattle.running.specs.declared.RunAnswer.the-variants.{Written, Refused}
-use Rattle.running.specs.declared.SettleAnswer.the-variants.{Round, Unsettled}
-
--- What the ticket was read as, by the answer that reading gave.
-module _ (text : List ℕ) (r : TicketRead) (read : readingOf r ≡ readTicket text) where
-  pub read-refused : (number line : ℕ) → r .answer ≡ Answer.Refused number line → readTicket text ≡ refused number line
-  read-refused number line e = sym read ∙ ap (λ (a : Answer). readingFrom a (r .table)) e
-
-  pub read-accepted : r .answer ≡ Answer.Accepted → readTicket text ≡ accepted (instanceOf (r .table))
-  read-accepted e = sym read ∙ ap (λ (a : Answer). readingFrom a (r .table)) e
+use Rattle.running.specs.declared.SettleAnswer.{SettleAnswer}
 
 -- What running answers, by what reading the ticket answers.
 module _ (text : List ℕ) (room : ℕ) where
@@ -66,48 +55,46 @@ module _ (text before : List ℕ) where
   ran-refused number line e = refused-as number line (running-refused text (length before) number line e)
 
   module _ (table : InstanceTable) (read : readTicket text ≡ accepted (instanceOf table)) where
-    formed : WellFormed (instanceOf table)
-    formed = accepted-well-formed text (instanceOf table) read
-
     pub ran-short : (size : ℕ) → size ≡ resultSize (table .n) → length before < size → Ran text before before (Refused 9 0)
     unfolding instanceOf
     ran-short size sized h = refused-as 9 0 (running-short text (length before) (instanceOf table) read (omega arith))
 
-    -- The code's run and its f give the instance's result.
-    result-is : (run : RunTable) (f : ℕ) → runFrom (table .n) run ≡ runOf (instanceOf table)
-        → f ≡ crashCount (faultsBy (table .n) (table .rounds)) (statesBy (table .n) (run .ends) (run .«end_rounds»))
-        → resultLines (runOver (table .n) (run .ends) (run .«end_rounds») (run .values) (run .rounds) (run .speakers) (run .«data_sent») (run .«commits_sent»)) f
-        ≡ resultText (instanceOf table)
-    unfolding resultText crashesOf runFrom
-    result-is run f same counted =
-        ap₂ resultLines (run-over (table .n) run ∙ same)
-        (counted ∙ counts-by-rounds table run ∙ ap (λ (r : Run). crashCount (instanceOf table .pattern) (r .states)) same)
-
-    pub ran-written : (size : ℕ) → size ≡ resultSize (table .n) → (run : RunTable) (f : ℕ) (after : List ℕ) → runFrom (table .n) run ≡ runOf (instanceOf table)
-        → f ≡ crashCount (faultsBy (table .n) (table .rounds)) (statesBy (table .n) (run .ends) (run .«end_rounds»)) → size ≤ length before
-        → after ≡ resultLines (runOver (table .n) (run .ends) (run .«end_rounds») (run .values) (run .rounds) (run .speakers) (run .«data_sent») (run .«commits_sent»)) f
-        ++ drop (resultSize (table .n)) before
-        → Ran text before after (Written size)
+    pub ran-written : (size : ℕ) → size ≡ resultSize (table .n) → (after : List ℕ) → size ≤ length before
+        → after ≡ resultText (instanceOf table) ++ drop (resultSize (table .n)) before → Ran text before after (Written size)
     unfolding answerOf bufferAfter instanceOf
-    ran-written size sized run f after same counted fits stored =
+    ran-written size sized after fits stored =
         let ran = running-fits text (length before) (instanceOf table) read (omega arith) in
+        let long = length-text (instanceOf table) (accepted-well-formed text (instanceOf table) read) in
         record {
-          answered = ap Written (sized ∙ sym (length-text (instanceOf table) formed)) ∙ sym (ap answerOf ran);
+          answered = ap Written (sized ∙ sym long) ∙ sym (ap answerOf ran);
           buffer =
-              stored ∙ ap₂ (λ (l : List ℕ) (k : ℕ). l ++ drop k before) (result-is run f same counted) (sym (length-text (instanceOf table) formed))
+              stored ∙ ap (λ (size : ℕ). resultText (instanceOf table) ++ drop size before) (sym long)
               ∙ sym (ap (λ (a : Reading (List ℕ)). bufferAfter a before) ran);
         }
 
+-- What is written of the code's run and its f is the instance's result.
+pub run-written : (table : InstanceTable) (before after : List ℕ) (run : RunTable) (f : ℕ) → runFrom (table .n) run ≡ runOf (instanceOf table)
+    → f ≡ crashCount (faultsBy (table .n) (table .«crash_rounds»)) (statesBy (table .n) (run .ends) (run .«end_rounds»))
+    → after
+    ≡ resultLines (runOver (table .n) (run .ends) (run .«end_rounds») (run .values) (run .rounds) (run .speakers) (run .«data_sent») (run .«commits_sent»)) f
+    ++ drop (resultSize (table .n)) before
+    → after ≡ resultText (instanceOf table) ++ drop (resultSize (table .n)) before
+unfolding resultText crashesOf runFrom
+run-written table before after run f same counted stored =
+    let crashes = counted ∙ counts-by-rounds table run ∙ ap (λ (r : Run). crashCount (instanceOf table .pattern) (r .states)) same in
+    stored ∙ ap (λ (l : List ℕ). l ++ drop (resultSize (table .n)) before) (ap₂ resultLines (run-over (table .n) run ∙ same) crashes)
+
 -- The run's last round qualifies.
 pub settles-last : (text : List ℕ) (table : InstanceTable) (run : RunTable) → readTicket text ≡ accepted (instanceOf table)
-    → runFrom (table .n) run ≡ runOf (instanceOf table) → Settles (readTicket text) (settlingOf (Round (run .rounds)))
+    → runFrom (table .n) run ≡ runOf (instanceOf table) → Settles (readTicket text) (settlingOf (SettleAnswer.Round (run .rounds)))
 unfolding Settles settlingOf runFrom
 settles-last text table run read same =
     rw read
     (ap (qualifies (instanceOf table)) (ap (λ (r : Run). r .rounds) same)
     ∙ settled-at-last (instanceOf table) (accepted-well-formed text (instanceOf table) read))
 
-pub settles-refused : (text : List ℕ) (number line : ℕ) → readTicket text ≡ refused number line → Settles (readTicket text) (settlingOf (Unsettled number line))
+pub settles-refused : (text : List ℕ) (number line : ℕ) → readTicket text ≡ refused number line
+    → Settles (readTicket text) (settlingOf (SettleAnswer.Refused number line))
 unfolding Settles settlingOf
 settles-refused text number line e = rw e refl
 

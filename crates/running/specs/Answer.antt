@@ -1,4 +1,4 @@
--- What running and settling answer, in document 01's numbers, and what they promise.
+-- What running answers, in document 01's numbers, and what it promises.
 use mathlib.Core.List.{List}
 use mathlib.Core.Path.{_≡_}
 use Prim.Native.Nat.{ℕ}
@@ -6,8 +6,6 @@ use lib.ListN.{length}
 use Rattle.formats.specs.Reading.{Reading, accepted, refused}
 use Rattle.running.specs.declared.RunAnswer.{RunAnswer}
 use Rattle.running.specs.declared.RunAnswer.the-variants.{Written, Refused}
-use Rattle.running.specs.declared.SettleAnswer.{SettleAnswer}
-use Rattle.running.specs.declared.SettleAnswer.the-variants.{Round, Unsettled}
 use Rattle.formats.specs.Running.{running, bufferAfter}
 
 -- The answer of running: how many bytes the result has, or the refusal with its line.
@@ -19,8 +17,3 @@ answerOf (refused number line) = Refused number line
 pub record Ran (text before after : List ℕ) (answer : RunAnswer) : Type 0 where
   pub answered : answer ≡ answerOf (running text (length before))
   pub buffer : after ≡ bufferAfter (running text (length before)) before
-
--- What an answer of settling says: a round, or a refusal with its line.
-unfoldable pub settlingOf : SettleAnswer → Reading ℕ
-settlingOf (Round r) = accepted r
-settlingOf (Unsettled number line) = refused number line

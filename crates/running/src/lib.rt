@@ -1,10 +1,18 @@
 // Running and settling a ticket (document 01, 'The result' and 'Refused calls'): total on every text and every buffer.
+ghost use mathlib.Core.List.{_++_};
+ghost use mathlib.Core.Path.{_≡_};
+ghost use Prim.Native.Nat.{_≤_};
+ghost use lib.ListN.{length, drop};
+ghost use Rattle.coordinator.specs.WellFormed.{WellFormed};
+ghost use Rattle.tables.specs.InstanceOfTable.{instanceOf, tableOf};
+ghost use Rattle.formats.specs.ResultLine.{resultSize, resultText};
 ghost use Rattle.formats.specs.Ticket.{readTicket};
 ghost use Rattle.ticket.specs.Header.{AfterHeader};
 ghost use Rattle.formats.specs.Settle.{Settles};
-ghost use Rattle.running.specs.Answer.{Ran, settlingOf};
-use ticket::Answer;
+ghost use Rattle.running.specs.Answer.{Ran};
+ghost use Rattle.running.specs.Settling.{settlingOf};
 use ticket::HeaderRead;
+use ticket::TicketAnswer;
 
 // What running answers: the bytes of the result, or the number of a refusal and its line.
 pub enum RunAnswer {
@@ -15,38 +23,31 @@ pub enum RunAnswer {
 // What settling answers: a round, or the number of a refusal and its line.
 pub enum SettleAnswer {
     Round(u8),
-    Unsettled(u8, u16),
+    Refused(u8, u16),
 }
 
-// Runs a ticket whose header says n and t, from its second line on, which begins at `at`.
-fn run_rest(text: &[u8], n: u8, t: u8, at: usize, out: &mut [u8]) -> RunAnswer
-    requires { ⌜ AfterHeader (now text) n t at ⌝ }
-    ensures { λ r. ⌜ Ran (now (text .entry)) (now (out .entry)) (now (out .exit)) r ⌝ }
+// Runs an instance, of which all but the values is lent, and writes its result to the front of a buffer that has room for it.
+fn write_run<'a>(
+    out: &mut [u8],
+    n: u8,
+    t: u8,
+    values: [u32; 64],
+    crash_rounds: &'a [u8; 64],
+    steps: &'a [u8; 64],
+    reached: &'a [u64; 64],
+    counts: &'a [u8; 64],
+)
+    requires { ⌜ WellFormed (instanceOf (tableOf n t values (now «crash_rounds») (now steps) (now reached) (now counts)))
+        × (resultSize n ≤ length (now out)) ⌝ }
+    ensures { λ r. ⌜ now (out .exit)
+        ≡ resultText (instanceOf (tableOf n t values (now («crash_rounds» .entry)) (now (steps .entry)) (now (reached .entry)) (now (counts .entry))))
+        ++ drop (resultSize n) (now (out .entry)) ⌝ }
 {
-    let read = ticket::read_rest(text, n, t, at);
-    let answer = read.answer;
-    if let Answer::Refused(number, line) = answer {
-        return RunAnswer::Refused(number, line);
-    }
-    let table = read.table;
-    let size = result::result_size(table.n);
-    if out.len() < size {
-        return RunAnswer::Refused(9, 0);
-    }
-    let values = table.values;
-    let run = coordinator_run::run_all(
-        table.n,
-        table.t,
-        values,
-        &table.rounds,
-        &table.steps,
-        &table.sets,
-        &table.counts,
-    );
-    let f = coordinator_run::crash_count(table.n, &table.rounds, &run.ends, &run.end_rounds);
+    let run = coordinator_run::run_all(n, t, values, crash_rounds, steps, reached, counts);
+    let f = coordinator_run::crash_count(n, crash_rounds, &run.ends, &run.end_rounds);
     result::write_result(
         out,
-        read.table.n,
+        n,
         &run.ends,
         &run.end_rounds,
         &run.values,
@@ -56,6 +57,37 @@ fn run_rest(text: &[u8], n: u8, t: u8, at: usize, out: &mut [u8]) -> RunAnswer
         run.data_sent,
         run.commits_sent,
     );
+}
+
+// Runs a ticket whose header says n and t, from its second line on, which begins at `at`.
+fn run_rest(text: &[u8], n: u8, t: u8, at: usize, out: &mut [u8]) -> RunAnswer
+    requires { ⌜ AfterHeader (now text) n t at ⌝ }
+    ensures { λ r. ⌜ Ran (now (text .entry)) (now (out .entry)) (now (out .exit)) r ⌝ }
+{
+    let mut values = [0u32; 64];
+    let mut crash_rounds = [0u8; 64];
+    let mut steps = [0u8; 64];
+    let mut reached = [0u64; 64];
+    let mut counts = [0u8; 64];
+    let answer = ticket::read_rest(
+        text,
+        n,
+        t,
+        at,
+        &mut values,
+        &mut crash_rounds,
+        &mut steps,
+        &mut reached,
+        &mut counts,
+    );
+    if let TicketAnswer::Refused(number, line) = answer {
+        return RunAnswer::Refused(number, line);
+    }
+    let size = result::result_size(n);
+    if out.len() < size {
+        return RunAnswer::Refused(9, 0);
+    }
+    write_run(out, n, t, values, &crash_rounds, &steps, &reached, &counts);
     RunAnswer::Written(size)
 }
 
@@ -70,15 +102,14 @@ pub fn run_ticket(text: &[u8], out: &mut [u8]) -> RunAnswer
     }
 }
 
-// Settles a ticket whose header says n and t, from its second line on, which begins at `at`.
-fn settle_rest(text: &[u8], n: u8, t: u8, at: usize) -> SettleAnswer
-    requires { ⌜ AfterHeader (now text) n t at ⌝ }
+// Names a round at whose end all processes not crashed hold one value: the run's last.
+pub fn settle(text: &[u8]) -> SettleAnswer
     ensures { λ r. ⌜ Settles (readTicket (now (text .entry))) (settlingOf r) ⌝ }
 {
-    let read = ticket::read_rest(text, n, t, at);
+    let read = ticket::read(text);
     let answer = read.answer;
-    if let Answer::Refused(number, line) = answer {
-        return SettleAnswer::Unsettled(number, line);
+    if let TicketAnswer::Refused(number, line) = answer {
+        return SettleAnswer::Refused(number, line);
     }
     let table = read.table;
     let values = table.values;
@@ -86,21 +117,10 @@ fn settle_rest(text: &[u8], n: u8, t: u8, at: usize) -> SettleAnswer
         table.n,
         table.t,
         values,
-        &table.rounds,
+        &table.crash_rounds,
         &table.steps,
-        &table.sets,
+        &table.reached,
         &table.counts,
     );
     SettleAnswer::Round(run.rounds)
-}
-
-// Names a round at whose end all processes not crashed hold one value: the run's last.
-pub fn settle(text: &[u8]) -> SettleAnswer
-    ensures { λ r. ⌜ Settles (readTicket (now (text .entry))) (settlingOf r) ⌝ }
-{
-    let header = ticket::read_header(text);
-    match header {
-        HeaderRead::Limits(n, t, at) => settle_rest(text, n, t, at),
-        HeaderRead::Refused(number, line) => SettleAnswer::Unsettled(number, line),
-    }
 }

@@ -33,16 +33,16 @@ module _ {B : Type 0} (f : ℕ → ℕ → B) (n : ℕ) (l : List ℕ) (fits : n
       mapFrom-at f (take n l) p 0 b h inside ∙ ap (f p) (getD-take n l (p - 1) 0 (omega arith))
 
 -- A table has a fault for each process.
-pub length-pattern : (x : InstanceTable) → x .n ≤ length (x .rounds) → length (instanceOf x .pattern) ≡ x .n
+pub length-pattern : (x : InstanceTable) → x .n ≤ length (x .«crash_rounds») → length (instanceOf x .pattern) ≡ x .n
 unfolding instanceOf
-length-pattern x fits = length-reading (faultIn x) (x .n) (x .rounds) fits
+length-pattern x fits = length-reading (faultIn x) (x .n) (x .«crash_rounds») fits
 
 -- The fault of process p in a table.
-pub fault-at : (x : InstanceTable) (p : ℕ) → x .n ≤ length (x .rounds) → 1 ≤ p → p ≤ x .n
+pub fault-at : (x : InstanceTable) (p : ℕ) → x .n ≤ length (x .«crash_rounds») → 1 ≤ p → p ≤ x .n
     → faultOf (instanceOf x) p
-    ≡ faultFrom (getD (x .rounds) (p - 1) 0) (getD (x .steps) (p - 1) 0) (getD (x .sets) (p - 1) 0) (getD (x .counts) (p - 1) 0)
+    ≡ faultFrom (getD (x .«crash_rounds») (p - 1) 0) (getD (x .steps) (p - 1) 0) (getD (x .reached) (p - 1) 0) (getD (x .counts) (p - 1) 0)
 unfolding faultOf instanceOf faultIn
-fault-at x p fits h g = at-process (faultIn x) (x .n) (x .rounds) fits p correct h g
+fault-at x p fits h g = at-process (faultIn x) (x .n) (x .«crash_rounds») fits p correct h g
 
 -- Arrays have a state for each process, and this is that of process p.
 module _ (n : ℕ) (ends endRounds values : List ℕ) (fits : n ≤ length ends) where

@@ -1,14 +1,14 @@
 // The tables by value that a ticket is read into and a run is kept in. Process p (document 01: station) stands at place p - 1.
 // specs/ says which instance and which run a table stands for.
 
-// What a ticket describes. A process is correct where its crash round is 0; the set is that of step 01 and the count that of step 02.
+// What a ticket describes. A process is correct where its crash round is 0; `reached` has the sets of step 01, and `counts` the counts of step 02.
 pub struct InstanceTable {
     pub n: u8,
     pub t: u8,
     pub values: [u32; 64],
-    pub rounds: [u8; 64],
+    pub crash_rounds: [u8; 64],
     pub steps: [u8; 64],
-    pub sets: [u64; 64],
+    pub reached: [u64; 64],
     pub counts: [u8; 64],
 }
 

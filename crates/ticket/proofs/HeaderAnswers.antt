@@ -43,7 +43,8 @@ module _ (text : List ℕ) (short : length text ≤ ticketLimit) where
       whole ∙ ap (readFrom accept atEnd header 1) (rest .1)
 
   -- A line of bytes, and the answer to it as `header_line` gives it.
-  module _ (size head tail : ℕ) (then : Cursor) (line : LineAt text 0 size head tail then) (answer : HeaderAnswer) (given : answer ≡ headerSays (lineBytes size head tail)) where
+  module _ (size head tail : ℕ) (then : Cursor) (line : LineAt text 0 size head tail then)
+      (answer : HeaderAnswer) (given : answer ≡ headerSays (lineBytes size head tail)) where
     says : answer ≡ headerSays (line .said)
     says = given ∙ header-words (line .said) (line .each) size head tail (line .sized) (line .upper) (line .lower)
 

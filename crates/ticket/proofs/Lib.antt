@@ -3,3 +3,4 @@ pub mod Stored
 pub mod Fitting
 pub mod HeaderAnswers
 pub mod Reached
+pub mod ReadAs

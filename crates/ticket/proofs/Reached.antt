@@ -7,10 +7,10 @@ use native.Mathlib.Omega.{arith}
 use mathlib.Core.Bool.{Bool, true, false, cond}
 use borrow.Author.Tests.{eqb-false}
 use lib.Dec.{eqb}
-use lib.ListN.{length, drop, replicate, length-set}
+use lib.ListN.{length, drop, length-set}
 use Rattle.consensus.specs.Instance.{Instance}
 use Rattle.consensus.proofs.Limits.{limits-hold}
-use Rattle.tables.specs.InstanceOfTable.{instanceOf}
+use Rattle.tables.specs.InstanceOfTable.{instanceOf, tableOf, emptyTable}
 use Rattle.tables.specs.declared.InstanceTable.{InstanceTable}
 use Rattle.formats.specs.Line.{linesOf}
 use Rattle.formats.specs.Reading.{refused, proceed, readFrom}
@@ -31,7 +31,7 @@ use Rattle.ticket_lines.specs.Places.{HasPlaces}
 use Rattle.ticket_lines.proofs.Whole.{line-words}
 use Rattle.ticket.specs.Header.{AfterHeader}
 use Rattle.ticket.specs.Answer.{readingFrom}
-use Rattle.ticket.specs.declared.Answer.{Answer}
+use Rattle.ticket.specs.declared.TicketAnswer.{TicketAnswer}
 use Rattle.ticket.specs.Progress.{soFar, stageOf, endAnswer}
 use Rattle.ticket.proofs.CrashTable.{stored, Full, full-roomy, full-stored, crash-stored}
 use Rattle.ticket.proofs.Stored.{withValue, none-so-far, proposal-so-far}
@@ -47,23 +47,25 @@ pub record Reached (text : List ℕ) (table : InstanceTable) (at : ℕ) (place :
   pub places : HasPlaces place (table .n)
   pub same : readTicket text ≡ readFrom accept atEnd (stageOf place table) k (linesOf (drop at text))
 
--- The same table at the same place.
-pub same-place : {text : List ℕ} {table after : InstanceTable} {at k : ℕ} {place to : Place} → table ≡ after → place ≡ to → Reached text after at to k → Reached text table at place k
-same-place e p h = rw (e, p) h
+-- The same arrays at the same place.
+pub same-place : {text : List ℕ} {n t at k : ℕ} {values rounds steps sets counts values′ rounds′ steps′ sets′ counts′ : List ℕ} {place to : Place}
+    → values ≡ values′ → rounds ≡ rounds′ → steps ≡ steps′ → sets ≡ sets′ → counts ≡ counts′ → place ≡ to
+    → Reached text (tableOf n t values′ rounds′ steps′ sets′ counts′) at to k → Reached text (tableOf n t values rounds steps sets counts) at place k
+same-place v r s m c p h = rw (v, r, s, m, c, p) h
 
-pub reached-start : (text : List ℕ) (table : InstanceTable) (at : ℕ) → AfterHeader text (table .n) (table .t) at → Full table → table .rounds ≡ replicate 64 0
+pub reached-start : (text : List ℕ) (n t at : ℕ) → AfterHeader text n t at → (table : InstanceTable) → table ≡ emptyTable n t
     → Reached text table at (Proposals 0) 2
 unfolding HasPlaces
-reached-start text table at header g none =
-    let limits = limits-hold (table .n) (table .t) (header .limits) in
-    record {
+reached-start text n t at header table e =
+    let limits = limits-hold n t (header .limits) in
+    rw e record {
       short = header .short;
       inside = header .inside;
       counted = omega (arith, header .behind);
-      full = g;
+      full = record { all-values = refl; all-crash-rounds = refl; all-steps = refl; all-reached = refl; all-counts = refl };
       few = limits .at-most-64;
       places = (omega (arith, limits .some-process), limits .at-most-64);
-      same = rw (none-so-far table none (limits .at-most-64)) (header .same);
+      same = rw (none-so-far (emptyTable n t) refl (limits .at-most-64)) (header .same);
     }
 
 -- What a text that is over is answered with.
@@ -90,7 +92,7 @@ places-after n count left few false e =
     (omega (arith, other), few)
 
 module _ (text : List ℕ) (table : InstanceTable) (at : ℕ) (place : Place) (k : ℕ) (here : Reached text table at place k) where
-  pub reached-end : length text ≤ at → (answer : Answer) → answer ≡ endAnswer place k → readingFrom answer table ≡ readTicket text
+  pub reached-end : length text ≤ at → (answer : TicketAnswer) → answer ≡ endAnswer place k → readingFrom answer table ≡ readTicket text
   unfolding readFrom
   reached-end h answer e =
       rw e (end-reading place table k) ∙ sym (here .same ∙ ap (readFrom accept atEnd (stageOf place table) k) (lines-at-end text at h))
@@ -115,7 +117,8 @@ module _ (text : List ℕ) (table : InstanceTable) (at : ℕ) (place : Place) (k
         → readTicket text ≡ proceed (store (soFar place table) said) k (λ s. readFrom accept atEnd s (suc k) (linesOf (drop (then .at) text)))
     unfolding readFrom accept
     stores said e =
-        let at-stage : lineSays (soFar place table .processes) (soFar place table .resilience) place (line .said) ≡ said = same-limits place table (line .said) ∙ sym says ∙ e in
+        let x = soFar place table in
+        let at-stage : lineSays (x .processes) (x .resilience) place (line .said) ≡ said = same-limits place table (line .said) ∙ sym says ∙ e in
         here .same ∙ ap (readFrom accept atEnd (stageOf place table) k) (line .lines) ∙ rw at-stage
 
     -- Where the line leads.
@@ -152,7 +155,13 @@ module _ (text : List ℕ) (table : InstanceTable) (at : ℕ) (place : Place) (k
     full-value : (count v : ℕ) → Full (withValue table count v)
     full-value count v =
         let f = here .full in
-        record { all-values = rw length-set (f .all-values); all-rounds = f .all-rounds; all-steps = f .all-steps; all-sets = f .all-sets; all-counts = f .all-counts }
+        record {
+          all-values = rw length-set (f .all-values);
+          all-crash-rounds = f .all-crash-rounds;
+          all-steps = f .all-steps;
+          all-reached = f .all-reached;
+          all-counts = f .all-counts;
+        }
 
     pub reached-proposal : {count v : ℕ} {to : Place} → answer ≡ Proposal count v to → Reached text (withValue table count v) (then .at) to (k + 1)
     unfolding Fits proceed store afterProposal
@@ -174,8 +183,10 @@ module _ (text : List ℕ) (table : InstanceTable) (at : ℕ) (place : Place) (k
     reached-crash {lines} {l} e =
         let fit = crash-place e in
         let after = crash-stored table l (full-roomy table (here .full) (here .few)) (fit .first) (fit .last) (fit .round) in
-        let described : soFar (Failures lines (l .process)) (stored table l) ≡ withCrash (soFar place table) l = after ∙ ap (λ (x : Instance). withCrash x l) (sym (whole-table (fit .at))) in
-        goes-on (Failures lines (l .process)) (stored table l) refl (full-stored table l (here .full)) (here .few) (stores _ e ∙ rw (sym described) refl)
+        let to = Failures lines (l .process) in
+        let whole = sym (whole-table (fit .at)) in
+        let described : soFar to (stored table l) ≡ withCrash (soFar place table) l = after ∙ ap (λ (x : Instance). withCrash x l) whole in
+        goes-on to (stored table l) refl (full-stored table l (here .full)) (here .few) (stores _ e ∙ rw (sym described) refl)
 
     pub reached-ended : answer ≡ End → Reached text table (then .at) Ended (k + 1)
     unfolding Fits proceed store HasPlaces soFar

@@ -24,9 +24,9 @@ withValue x count v =
       n = x .n;
       t = x .t;
       values = set (x .values) count v;
-      rounds = x .rounds;
+      «crash_rounds» = x .«crash_rounds»;
       steps = x .steps;
-      sets = x .sets;
+      reached = x .reached;
       counts = x .counts;
     }
 
@@ -36,10 +36,10 @@ unfolding mapFrom faultIn faultFrom
 all-correct x zero i = refl
 all-correct x (suc n) i = ap (λ (l : List Fault). correct ∷ l) (all-correct x n (suc i))
 
-pub none-so-far : (x : InstanceTable) → x .rounds ≡ replicate 64 0 → x .n ≤ 64 → soFar (Proposals 0) x ≡ unproposed (x .n) (x .t)
+pub none-so-far : (x : InstanceTable) → x .«crash_rounds» ≡ replicate 64 0 → x .n ≤ 64 → soFar (Proposals 0) x ≡ unproposed (x .n) (x .t)
 unfolding soFar unproposed instanceOf
 none-so-far x none few =
-    let pattern : mapFrom (faultIn x) 1 (take (x .n) (x .rounds)) ≡ replicate (x .n) correct =
+    let pattern : mapFrom (faultIn x) 1 (take (x .n) (x .«crash_rounds»)) ≡ replicate (x .n) correct =
     ap (λ (l : List ℕ). mapFrom (faultIn x) 1 (take (x .n) l)) none ∙ ap (mapFrom (faultIn x) 1) (take-replicate (x .n) 64 0 few) ∙ all-correct x (x .n) 1 in
     ap (λ (m : List Fault). record { processes = x .n; resilience = x .t; proposals = []; pattern = m }) pattern
 

@@ -3,12 +3,12 @@ use Rattle.consensus.specs.Instance.{Instance}
 use Rattle.tables.specs.InstanceOfTable.{instanceOf}
 use Rattle.tables.specs.declared.InstanceTable.{InstanceTable}
 use Rattle.formats.specs.Reading.{Reading, accepted, refused}
-use Rattle.ticket.specs.declared.Answer.{Answer}
-use Rattle.ticket.specs.declared.Answer.the-variants.{Accepted, Refused}
+use Rattle.ticket.specs.declared.TicketAnswer.{TicketAnswer}
+use Rattle.ticket.specs.declared.TicketAnswer.the-variants.{Accepted, Refused}
 use Rattle.ticket.specs.declared.TicketRead.{TicketRead}
 
 -- Accepted: the table's instance. Refused: the number of the refusal and its line.
-abbrev pub readingFrom : Answer → InstanceTable → Reading Instance
+abbrev pub readingFrom : TicketAnswer → InstanceTable → Reading Instance
 readingFrom Accepted table = accepted (instanceOf table)
 readingFrom (Refused number line) table = refused number line
 

@@ -7,7 +7,7 @@ use Rattle.tables.specs.declared.InstanceTable.{InstanceTable}
 use Rattle.formats.specs.Accept.{Stage, body}
 use Rattle.formats.specs.declared.Place.{Place}
 use Rattle.formats.specs.declared.Place.the-variants.{Proposals, Failures, Ended}
-use Rattle.ticket.specs.declared.Answer.{Answer}
+use Rattle.ticket.specs.declared.TicketAnswer.{TicketAnswer}
 
 -- The instance as described so far: the table's, with the proposals that were made.
 unfoldable pub soFar : Place → InstanceTable → Instance
@@ -20,7 +20,7 @@ abbrev pub stageOf : Place → InstanceTable → Stage
 stageOf place table = body place (soFar place table)
 
 -- A text that is over at line k.
-unfoldable pub endAnswer : Place → ℕ → Answer
-endAnswer (Proposals count) k = Answer.Refused 3 k
-endAnswer (Failures lines last) k = Answer.Refused 3 k
-endAnswer Ended k = Answer.Accepted
+unfoldable pub endAnswer : Place → ℕ → TicketAnswer
+endAnswer (Proposals count) k = TicketAnswer.Refused 3 k
+endAnswer (Failures lines last) k = TicketAnswer.Refused 3 k
+endAnswer Ended k = TicketAnswer.Accepted

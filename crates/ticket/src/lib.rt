@@ -6,23 +6,25 @@ use lines::Cursor;
 use lines::LineRead;
 use tables::InstanceTable;
 ghost use mathlib.Core.Path.{_≡_};
+ghost use Rattle.tables.specs.InstanceOfTable.{emptyTable, tableOf};
 ghost use Rattle.formats.specs.Ticket.{readTicket};
 ghost use Rattle.ticket.specs.Progress.{endAnswer};
-ghost use Rattle.ticket.specs.Answer.{readingOf};
+ghost use Rattle.ticket.specs.Answer.{readingFrom, readingOf};
+ghost use Rattle.ticket.specs.declared.TicketAnswer.{TicketAnswer};
 ghost use Rattle.ticket.specs.Header.{AfterHeader, HeaderSays};
 
 // The most bytes that a ticket has.
 const TICKET_LIMIT: usize = 4096;
 
 // Accepted, or the number of the refusal and its line.
-pub enum Answer {
+pub enum TicketAnswer {
     Accepted,
     Refused(u8, u16),
 }
 
 // The table holds the instance of an accepted ticket.
 pub struct TicketRead {
-    pub answer: Answer,
+    pub answer: TicketAnswer,
     pub table: InstanceTable,
 }
 
@@ -60,35 +62,39 @@ pub fn read_header(text: &[u8]) -> HeaderRead
 }
 
 // What a text that is over at line k is answered with: accepted past its 04, and otherwise refusal 3.
-fn at_end(place: Place, k: u16) -> Answer
+fn at_end(place: Place, k: u16) -> TicketAnswer
     ensures { λ r. ⌜ r ≡ endAnswer place k ⌝ }
 {
     let Place::Ended = place else {
-        return Answer::Refused(3, k);
+        return TicketAnswer::Refused(3, k);
     };
-    Answer::Accepted
+    TicketAnswer::Accepted
 }
 
-// Reads the lines of a ticket behind its header, from `at` on; k is the number of the line at the cursor.
-pub fn read_rest(text: &[u8], n: u8, t: u8, at: usize) -> TicketRead
-    requires { ⌜ AfterHeader (now text) n t at ⌝ }
-    ensures { λ r. ⌜ readingOf r ≡ readTicket (now (text .entry)) ⌝ }
+// Reads the lines of a ticket behind its header, from `at` on, into lent arrays that hold nothing yet; k is the number of the line at the cursor.
+pub fn read_rest(
+    text: &[u8],
+    n: u8,
+    t: u8,
+    at: usize,
+    values: &mut [u32; 64],
+    crash_rounds: &mut [u8; 64],
+    steps: &mut [u8; 64],
+    reached: &mut [u64; 64],
+    counts: &mut [u8; 64],
+) -> TicketAnswer
+    requires { ⌜ AfterHeader (now text) n t at
+        × (tableOf n t (now values) (now «crash_rounds») (now steps) (now reached) (now counts) ≡ emptyTable n t) ⌝ }
+    ensures { λ r. ⌜ readingFrom r
+        (tableOf n t (now (values .exit)) (now («crash_rounds» .exit)) (now (steps .exit)) (now (reached .exit)) (now (counts .exit)))
+        ≡ readTicket (now (text .entry)) ⌝ }
 {
-    let mut table = InstanceTable {
-        n,
-        t,
-        values: [0u32; 64],
-        rounds: [0u8; 64],
-        steps: [0u8; 64],
-        sets: [0u64; 64],
-        counts: [0u8; 64],
-    };
     let mut here = Cursor { at };
     let mut place = Place::Proposals(0);
     let mut k: u16 = 2;
-    let answer = loop {
+    loop {
         if text.len() <= here.at {
-            break at_end(place, k);
+            return at_end(place, k);
         }
         let LineRead::Line {
             size,
@@ -97,26 +103,80 @@ pub fn read_rest(text: &[u8], n: u8, t: u8, at: usize) -> TicketRead
             next,
         } = reader::read_line(text, here.at)
         else {
-            break Answer::Refused(2, k);
+            return TicketAnswer::Refused(2, k);
         };
-        match ticket_lines::accept_line(size, head, tail, place, table.n, table.t) {
+        match ticket_lines::accept_line(size, head, tail, place, n, t) {
             LineAnswer::Proposal(count, value, to) => {
-                table.values[count as usize] = value;
+                values[count as usize] = value;
                 place = to;
             }
             LineAnswer::Crash(lines, l) => {
                 let i = (l.process - 1) as usize;
-                table.rounds[i] = l.round;
-                table.steps[i] = l.step;
-                table.sets[i] = l.reached;
-                table.counts[i] = l.count;
+                crash_rounds[i] = l.round;
+                steps[i] = l.step;
+                reached[i] = l.reached;
+                counts[i] = l.count;
                 place = Place::Failures(lines, l.process);
             }
             LineAnswer::End => place = Place::Ended,
-            LineAnswer::Refused(number) => break Answer::Refused(number, k),
+            LineAnswer::Refused(number) => return TicketAnswer::Refused(number, k),
         }
         here = next;
         k += 1;
+    }
+}
+
+// A refusal of the header, beside an empty table.
+fn refused_header(number: u8, line: u16) -> TicketRead
+    ensures { λ r. ⌜ (r .answer ≡ TicketAnswer.Refused number line) × (r .table ≡ emptyTable 0 0) ⌝ }
+{
+    let answer = TicketAnswer::Refused(number, line);
+    let table = InstanceTable {
+        n: 0,
+        t: 0,
+        values: [0; 64],
+        crash_rounds: [0; 64],
+        steps: [0; 64],
+        reached: [0; 64],
+        counts: [0; 64],
     };
     TicketRead { answer, table }
+}
+
+// Reads a ticket whole, its header and the rest; a refused header leaves the table empty.
+pub fn read(text: &[u8]) -> TicketRead
+    ensures { λ r. ⌜ readingOf r ≡ readTicket (now (text .entry)) ⌝ }
+{
+    let header = read_header(text);
+    match header {
+        HeaderRead::Limits(n, t, at) => {
+            let mut values = [0u32; 64];
+            let mut crash_rounds = [0u8; 64];
+            let mut steps = [0u8; 64];
+            let mut reached = [0u64; 64];
+            let mut counts = [0u8; 64];
+            let answer = read_rest(
+                text,
+                n,
+                t,
+                at,
+                &mut values,
+                &mut crash_rounds,
+                &mut steps,
+                &mut reached,
+                &mut counts,
+            );
+            let table = InstanceTable {
+                n,
+                t,
+                values,
+                crash_rounds,
+                steps,
+                reached,
+                counts,
+            };
+            TicketRead { answer, table }
+        }
+        HeaderRead::Refused(number, line) => refused_header(number, line),
+    }
 }

@@ -1,5 +1,5 @@
 -- `agreement::uc_settle` meets its contract. Assumes nothing.
-use Rattle.agreement.proofs.Codes.{round-code, unsettled-code}
+use Rattle.agreement.proofs.Codes.{round-code, settle-refused-code}
 use borrow.Author.Needs.{needs}
 use Rattle.agreement.proofs.uc_settle.Statement.{statement}
 use Rattle.agreement.proofs.uc_settle.Tie as tie
@@ -25,7 +25,7 @@ returns c = round-code _ _ (c .before .before .before .settle .ensures) _ (c .be
 returns-2 : tie.Need-returns-2
 returns-2 c =
     let told = c .before .before in
-    unsettled-code _ _ (told .before .before .settle .ensures) _ _ _ (told .answer2 .given .1) (c .refusal-code .ensures)
+    settle-refused-code _ _ (told .before .before .settle .ensures) _ _ _ (told .answer2 .given .1) (c .refusal-code .ensures)
 
 pub uc-settle-spec : {M : Type 1} → statement M
 uc-settle-spec =

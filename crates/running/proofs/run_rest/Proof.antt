@@ -1,16 +1,30 @@
 -- `running::run_rest` meets its contract: each answer is a law of Answers, at what reading the rest of the ticket ensures. Assumes nothing.
-use mathlib.Core.Path.{_≡_}
+use mathlib.Core.Path.{_≡_, refl}
 use borrow.Author.Needs.{needs}
 use native.Mathlib.Omega.{arith}
-use lib.ListN.{length}
-use Rattle.tables.specs.InstanceOfTable.{instanceOf}
+use Rattle.tables.specs.InstanceOfTable.{instanceOf, tableOf}
+use Rattle.tables.specs.declared.InstanceTable.{InstanceTable}
 use Rattle.formats.specs.Reading.{accepted}
 use Rattle.formats.specs.Ticket.{readTicket}
 use Rattle.formats.proofs.WellFormed.{accepted-well-formed}
-use Rattle.coordinator_run.proofs.Reading.{rounds-fit}
-use Rattle.running.proofs.Answers.{read-refused, read-accepted, ran-refused, ran-short, ran-written}
+use Rattle.ticket.proofs.ReadAs.{read-refused, read-accepted}
+use Rattle.running.proofs.Answers.{ran-refused, ran-short, ran-written}
 use Rattle.running.proofs.run_rest.Statement.{statement}
 use Rattle.running.proofs.run_rest.Tie as tie
+
+-- The call's start, from where the rest has been read.
+abbrev entry : tie.After-read-rest → tie.Start
+entry c =
+    let steps = c .before .before .before in
+    let values = steps .before .before in
+    values .before .before .before
+
+-- The table of what was read.
+abbrev table-read : tie.After-read-rest → InstanceTable
+table-read c =
+    let args = entry c .args in
+    let last = c .read-rest .last .1 .1 .1 .1 in
+    tableOf (args .n) (args .t) (last .0) (last .1 .0) (last .1 .1 .0) (last .1 .1 .1 .0) (last .1 .1 .1 .1 .0)
 
 read-rest-requires : tie.Need-read-rest-requires
 read-rest-requires c κs = search needs
@@ -20,17 +34,17 @@ enum-known-answer c = search needs
 
 returns : tie.Need-returns
 returns c =
-    let read = c .before .before .before .read-rest in
-    ran-refused _ _ _ _ (read-refused _ (read .result) (read .ensures) _ _ (c .before .answer .given .1))
+    let read = c .before .before .before in
+    ran-refused _ _ _ _ (read-refused _ _ (table-read read) (read .read-rest .ensures) _ _ (c .before .answer .given .1))
 
 enum-told : tie.Need-enum-told
 enum-told c = search needs
 
 -- Past the first return the ticket is accepted, with the instance of the table.
-ticket-read : (c : tie.After-table)
-    → let told = c .before .before .before in
-    readTicket (told .before .before .before .args .text .now) ≡ accepted (instanceOf (told .read-rest .result .table))
-ticket-read c = let told = c .before in read-accepted _ _ (told .before .before .read-rest .ensures) (told .enum-told .given .1)
+ticket-read : (c : tie.After-enum-told) → let read = c .before .before in readTicket (entry read .args .text .now) ≡ accepted (instanceOf (table-read read))
+ticket-read c =
+    let read = c .before .before in
+    read-accepted _ _ (table-read read) (read .read-rest .ensures) (c .enum-told .given .1)
 
 result-size-requires : tie.Need-result-size-requires
 result-size-requires c κs = search needs
@@ -38,33 +52,17 @@ result-size-requires c κs = search needs
 returns-2 : tie.Need-returns-2
 returns-2 c = let sized = c .before in ran-short _ _ _ (ticket-read (sized .before)) _ (sized .result-size .ensures) (c .if1 .taken)
 
--- Where the rounds are run the result has room, and where the result is written they have been run.
-abbrev room : tie.After-run-all-arg4 → tie.Else1
-room c = let values = c .before .before .before .before .before in values .before
+-- The result has room where the arrays are lent.
+abbrev room : tie.After-counts2 → tie.Else1
+room c =
+    let rounds = c .before .before .before in
+    rounds .before .before
 
-abbrev ran : tie.After-crash-count → tie.After-run-all
-ran c = let lent = c .before .before .before in lent .before .before .before
-
-run-all-requires : tie.Need-run-all-requires
-run-all-requires c κs = accepted-well-formed _ _ (ticket-read (room c .before .before))
-
-crash-count-requires : tie.Need-crash-count-requires
-unfolding instanceOf
-crash-count-requires c κs =
-    let done = c .before .before .before .before .before in
-    let formed = accepted-well-formed _ _ (ticket-read (room (done .before) .before .before)) in
-    let places : length (done .run-all .result .ends) ≡ 64 = search needs in
-    (formed .at-most-64, rounds-fit _ formed, omega (arith, formed .at-most-64))
-
-write-result-requires : tie.Need-write-result-requires
-unfolding instanceOf
-write-result-requires c κs =
-    let counted = c .before .before .before .before .before in
-    let done = ran counted in
-    let branch = room (done .before) in
-    let few = accepted-well-formed _ _ (ticket-read (branch .before .before)) .at-most-64 in
-    let places : length (done .run-all .result .ends) ≡ 64 = search needs in
-    (omega (arith, few), omega (arith, few), omega (arith, branch .before .result-size .ensures, branch .if1 .left))
+write-run-requires : tie.Need-write-run-requires
+write-run-requires c κs =
+    let branch = room c in
+    let sized = branch .before in
+    (accepted-well-formed _ _ (ticket-read (sized .before)), omega (arith, sized .result-size .ensures, branch .if1 .left))
 
 same-length : tie.Need-same-length
 same-length c = search needs
@@ -72,15 +70,9 @@ same-length c = search needs
 returns-3 : tie.Need-returns-3
 returns-3 c =
     let wrote = c .before .before in
-    let counted = wrote .before .before .before .before .before .before in
-    let done = ran counted in
-    let branch = room (done .before) in
+    let branch = room (wrote .before) in
     let sized = branch .before in
-    ran-written _ _ _ (ticket-read (sized .before)) _ (sized .result-size .ensures) _ _ _
-    (done .run-all .ensures)
-    (counted .crash-count .ensures)
-    (branch .if1 .left)
-    (wrote .write-result .ensures)
+    ran-written _ _ _ (ticket-read (sized .before)) _ (sized .result-size .ensures) _ (branch .if1 .left) (wrote .write-run .ensures)
 
 pub run-rest-spec : {M : Type 1} → statement M
 run-rest-spec =
@@ -92,8 +84,6 @@ run-rest-spec =
     enum-told
     result-size-requires
     returns-2
-    run-all-requires
-    crash-count-requires
-    write-result-requires
+    write-run-requires
     same-length
     returns-3)

@@ -9,18 +9,18 @@ use Rattle.formats.specs.declared.Place.{Place}
 use Rattle.formats.specs.declared.Place.the-variants.{Proposals, Failures, Ended}
 use Rattle.formats.proofs.Place.{the-type}
 use Rattle.ticket.specs.Progress.{endAnswer}
-use Rattle.ticket.specs.declared.Answer.{Answer}
+use Rattle.ticket.specs.declared.TicketAnswer.{TicketAnswer}
 use Rattle.ticket.proofs.at_end.Statement.{statement}
 use Rattle.ticket.proofs.at_end.Tie as tie
 
 -- At any other place the text is over too soon.
-too-soon : (place : Place) (k : ℕ) → OneOf (0 ∷ 1 ∷ []) (tagOf the-type place) → Answer.Refused 3 k ≡ endAnswer place k
+too-soon : (place : Place) (k : ℕ) → OneOf (0 ∷ 1 ∷ []) (tagOf the-type place) → TicketAnswer.Refused 3 k ≡ endAnswer place k
 unfolding endAnswer
 too-soon (Proposals count) k h = refl
 too-soon (Failures lines last) k h = refl
 too-soon Ended k h = absurd (miss (0 ∷ 1 ∷ []) 2 tt h)
 
-past-end : (place : Place) (k : ℕ) → place ≡ Ended → Answer.Accepted ≡ endAnswer place k
+past-end : (place : Place) (k : ℕ) → place ≡ Ended → TicketAnswer.Accepted ≡ endAnswer place k
 unfolding endAnswer
 past-end place k e = rw e
 

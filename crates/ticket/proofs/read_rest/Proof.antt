@@ -1,10 +1,11 @@
 -- `read_rest` meets its contract: the loop keeps that what is left is read on from here. Assumes nothing.
-use mathlib.Core.Path.{refl, sym, _∙_}
+use mathlib.Core.Path.{_≡_, refl, sym, _∙_}
 use mathlib.Core.Logic.{⊎-elim}
 use Prim.Native.Nat.{_-_, _≤_, _<_}
 use native.Mathlib.Omega.{arith}
 use lib.ListN.{length}
 use borrow.Author.Needs.{needs}
+use Rattle.tables.specs.InstanceOfTable.{tableOf}
 use Rattle.lines.proofs.Read.{LineAt, read-line}
 use Rattle.ticket.proofs.Reached.{reached-start, reached-end, reached-no-line, Reached, same-place}
 use Rattle.ticket.proofs.Reached.{proposal-place, crash-place, reached-refused, reached-proposal, reached-crash, reached-ended}
@@ -12,23 +13,30 @@ use Rattle.ticket.proofs.read_rest.Statement.{statement}
 use Rattle.ticket.proofs.read_rest.Tie as tie
 
 abbrev Inv-loop : tie.InvT-loop
-Inv-loop text n t at table₀ here₀ place₀ k₀ table here place k = Reached text table (here .at) place k
+Inv-loop text n t at values₀ rounds₀ steps₀ reached₀ counts₀ here₀ place₀ k₀ values rounds steps reached counts here place k =
+    Reached text (tableOf n t values rounds steps reached counts) (here .at) place k
 
 abbrev μ-loop : tie.MeasureT-loop
-μ-loop text n t at table₀ here₀ place₀ k₀ table here place k = length text - here .at
+μ-loop text n t at values₀ rounds₀ steps₀ reached₀ counts₀ here₀ place₀ k₀ values rounds steps reached counts here place k = length text - here .at
+
+-- The turn of the loop in which a line was looked for.
+abbrev turn : tie.After-read-line Inv-loop μ-loop → tie.At-loop Inv-loop μ-loop
+turn c = c .before .before .before
 
 -- The line that was read.
-line-here : (c : tie.After-size Inv-loop μ-loop)
-    → LineAt (c .before .before .before .before .before .before .before .args .text .now) (c .before .before .before .before .before .loop .here .at)
+line-here : (c : tie.After-size Inv-loop μ-loop) → let here = turn (c .before .before) in
+    LineAt (here .before .before .args .text .now) (here .loop .here .at)
     (c .size .given .0 .0) (c .size .given .0 .1 .0) (c .size .given .0 .1 .1 .0) (c .size .given .0 .1 .1 .1 .0)
 line-here c = read-line _ _ _ _ _ _ (sym (c .before .before .read-line .ensures) ∙ c .size .given .1)
 
 loop-holds : tie.Need-loop-holds Inv-loop μ-loop
-loop-holds c =
-    reached-start _ _ _ (c .before .pre) (record { all-values = refl; all-rounds = refl; all-steps = refl; all-sets = refl; all-counts = refl }) refl
+loop-holds c = reached-start _ _ _ _ (c .before .pre .0) _ (c .before .pre .1)
 
 at-end-requires : tie.Need-at-end-requires Inv-loop μ-loop
 at-end-requires c κs = search needs
+
+returns : tie.Need-returns Inv-loop μ-loop
+returns c = reached-end _ _ _ _ _ (c .before .before .before .loop .inv) (omega arith) _ (c .at-end .ensures)
 
 read-line-requires : tie.Need-read-line-requires Inv-loop μ-loop
 read-line-requires c κs = search needs
@@ -39,8 +47,13 @@ enum-known-size c = search needs
 enum-told : tie.Need-enum-told Inv-loop μ-loop
 enum-told c = search needs
 
+returns-2 : tie.Need-returns-2 Inv-loop μ-loop
+returns-2 c =
+    let answered = c .before .before in
+    reached-no-line _ _ _ _ _ (turn answered .loop .inv) (omega arith) (sym (c .enum-told .given .1) ∙ answered .read-line .ensures)
+
 accept-line-requires : tie.Need-accept-line-requires Inv-loop μ-loop
-accept-line-requires c κs = c .before .before .before .before .before .before .loop .inv .places
+accept-line-requires c κs = turn (c .before .before .before) .loop .inv .places
 
 enum-known-count : tie.Need-enum-known-count Inv-loop μ-loop
 enum-known-count c = search needs
@@ -50,26 +63,26 @@ proposal-here : (c : tie.After-known-told2 Inv-loop μ-loop) → c .before .coun
 proposal-here c =
     let taken = c .before .before .before in
     let line = taken .before .before in
-    proposal-place _ _ _ _ _ (line .before .before .before .before .before .loop .inv) _ _ _ _ (line-here line) _ (taken .accept-line .ensures) (c .before .count .given .1)
+    proposal-place _ _ _ _ _ (turn (line .before .before) .loop .inv) _ _ _ _ (line-here line) _ (taken .accept-line .ensures) (c .before .count .given .1)
 
-cast-table : tie.Need-cast-table Inv-loop μ-loop
-cast-table c = let inside = proposal-here c in omega arith
+cast-values : tie.Need-cast-values Inv-loop μ-loop
+cast-values c = let inside = proposal-here c in omega arith
 
-mul-table : tie.Need-mul-table Inv-loop μ-loop
-mul-table c = let inside = proposal-here c in omega arith
+mul-values : tie.Need-mul-values Inv-loop μ-loop
+mul-values c = let inside = proposal-here c in omega arith
 
-element-write-table : tie.Need-element-write-table Inv-loop μ-loop
-element-write-table c = proposal-here c
+element-write-values : tie.Need-element-write-values Inv-loop μ-loop
+element-write-values c = proposal-here c
 
 enum-known-lines : tie.Need-enum-known-lines Inv-loop μ-loop
 enum-known-lines c = search needs
 
 -- The place of a crash.
-crash-here : (c : tie.After-struct-known2 Inv-loop μ-loop) → (1 ≤ c .before .before .lines .given .0 .1 .0 .process) × (c .before .before .lines .given .0 .1 .0 .process ≤ 64)
+crash-here : (c : tie.After-struct-known2 Inv-loop μ-loop) → let said = c .before .before .lines .given .0 .1 .0 in (1 ≤ said .process) × (said .process ≤ 64)
 crash-here c =
     let taken = c .before .before .before .before in
     let line = taken .before .before in
-    let here = line .before .before .before .before .before .loop .inv in
+    let here = turn (line .before .before) .loop .inv in
     let inside = crash-place _ _ _ _ _ here _ _ _ _ (line-here line) _ (taken .accept-line .ensures) (c .before .before .lines .given .1) in
     omega (arith, inside .first, inside .last, here .few)
 
@@ -79,26 +92,32 @@ sub-i c = let inside = crash-here c in omega arith
 cast-i : tie.Need-cast-i Inv-loop μ-loop
 cast-i c = let inside = crash-here c in omega arith
 
-element-write-table-2 : tie.Need-element-write-table-2 Inv-loop μ-loop
-element-write-table-2 c = let inside = crash-here c in omega arith
+element-write-crash-rounds : tie.Need-element-write-crash-rounds Inv-loop μ-loop
+element-write-crash-rounds c = let inside = crash-here c in omega arith
 
-element-write-table-3 : tie.Need-element-write-table-3 Inv-loop μ-loop
-element-write-table-3 c = let inside = crash-here c in omega arith
+element-write-steps : tie.Need-element-write-steps Inv-loop μ-loop
+element-write-steps c = let inside = crash-here c in omega arith
 
-mul-table-2 : tie.Need-mul-table-2 Inv-loop μ-loop
-mul-table-2 c = let inside = crash-here c in omega arith
+mul-reached : tie.Need-mul-reached Inv-loop μ-loop
+mul-reached c = let inside = crash-here c in omega arith
 
-element-write-table-4 : tie.Need-element-write-table-4 Inv-loop μ-loop
-element-write-table-4 c = let inside = crash-here c in omega arith
+element-write-reached : tie.Need-element-write-reached Inv-loop μ-loop
+element-write-reached c = let inside = crash-here c in omega arith
 
-element-write-table-5 : tie.Need-element-write-table-5 Inv-loop μ-loop
-element-write-table-5 c = let inside = crash-here c in omega arith
+element-write-counts : tie.Need-element-write-counts Inv-loop μ-loop
+element-write-counts c = let inside = crash-here c in omega arith
 
 enum-told-2 : tie.Need-enum-told-2 Inv-loop μ-loop
 enum-told-2 c = search needs
 
 enum-known-number : tie.Need-enum-known-number Inv-loop μ-loop
 enum-known-number c = search needs
+
+returns-3 : tie.Need-returns-3 Inv-loop μ-loop
+returns-3 c =
+    let taken = c .before .before .before in
+    let line = taken .before .before in
+    reached-refused _ _ _ _ _ (turn (line .before .before) .loop .inv) _ _ _ _ (line-here line) _ (taken .accept-line .ensures) (c .before .number .given .1)
 
 add-k : tie.Need-add-k Inv-loop μ-loop
 add-k c = search needs
@@ -110,27 +129,14 @@ loop-again : tie.Need-loop-again Inv-loop μ-loop
 loop-again c =
     let taken = c .before in
     let line = taken .before .before in
-    let here = line .before .before .before .before .before .loop .inv in
+    let here = turn (line .before .before) .loop .inv in
+    let said = taken .accept-line .ensures in
     ⊎-elim
-    (λ w. same-place (w .3) (w .4) (reached-proposal _ _ _ _ _ here _ _ _ _ (line-here line) _ (taken .accept-line .ensures) (w .1 .given .1)))
+    (λ w. same-place (w .3) (w .4) (w .5) (w .6) (w .7) (w .8) (reached-proposal _ _ _ _ _ here _ _ _ _ (line-here line) _ said (w .1 .given .1)))
     (⊎-elim
-    (λ w. same-place (w .4) (w .5) (reached-crash _ _ _ _ _ here _ _ _ _ (line-here line) _ (taken .accept-line .ensures) (w .1 .given .1)))
-    (λ w. same-place (w .2) (w .3) (reached-ended _ _ _ _ _ here _ _ _ _ (line-here line) _ (taken .accept-line .ensures) (w .1 .given .1))))
+    (λ w. same-place (w .4) (w .5) (w .6) (w .7) (w .8) (w .9) (reached-crash _ _ _ _ _ here _ _ _ _ (line-here line) _ said (w .1 .given .1)))
+    (λ w. same-place (w .2) (w .3) (w .4) (w .5) (w .6) (w .7) (reached-ended _ _ _ _ _ here _ _ _ _ (line-here line) _ said (w .1 .given .1))))
     (c .match2 .came)
-
-returns : tie.Need-returns Inv-loop μ-loop
-returns c = reached-end _ _ _ _ _ (c .before .before .before .loop .inv) (omega arith) _ (c .at-end .ensures)
-
-returns-2 : tie.Need-returns-2 Inv-loop μ-loop
-returns-2 c =
-    let answered = c .before .before in
-    reached-no-line _ _ _ _ _ (answered .before .before .before .loop .inv) (omega arith) (sym (c .enum-told .given .1) ∙ answered .read-line .ensures)
-
-returns-3 : tie.Need-returns-3 Inv-loop μ-loop
-returns-3 c =
-    let taken = c .before .before .before in
-    let line = taken .before .before in
-    reached-refused _ _ _ _ _ (line .before .before .before .before .before .loop .inv) _ _ _ _ (line-here line) _ (taken .accept-line .ensures) (c .before .number .given .1)
 
 pub read-rest-spec : {M : Type 1} → statement M
 read-rest-spec =
@@ -140,27 +146,27 @@ read-rest-spec =
     μ-loop
     loop-holds
     at-end-requires
+    returns
     read-line-requires
     enum-known-size
     enum-told
+    returns-2
     accept-line-requires
     enum-known-count
-    cast-table
-    mul-table
-    element-write-table
+    cast-values
+    mul-values
+    element-write-values
     enum-known-lines
     sub-i
     cast-i
-    element-write-table-2
-    element-write-table-3
-    mul-table-2
-    element-write-table-4
-    element-write-table-5
+    element-write-crash-rounds
+    element-write-steps
+    mul-reached
+    element-write-reached
+    element-write-counts
     enum-told-2
     enum-known-number
+    returns-3
     add-k
     loop-less
-    loop-again
-    returns
-    returns-2
-    returns-3)
+    loop-again)
