@@ -4,11 +4,28 @@ use lines::Cursor;
 use lines::LineRead;
 ghost use mathlib.Core.Path.{_≡_};
 ghost use Rattle.lines.specs.Read.{readAt};
+ghost use Rattle.reader.specs.LineVerdict.{placeBehind, readerBehind, stepAt};
 
 // The ticket bytes, and the place at which the next line begins.
 pub struct LineReader<'a> {
     pub text: &'a [u8],
     pub at: usize,
+}
+
+// A line, and the place at which the next one begins.
+pub struct LineStep {
+    pub line: LineRead,
+    pub at: usize,
+}
+
+// The place behind a line that was read; where there is none, the place stays.
+fn place_behind(line: LineRead, place: usize) -> usize
+    ensures { λ r. ⌜ r ≡ placeBehind line place ⌝ }
+{
+    match line {
+        LineRead::Line { next, .. } => next.at,
+        LineRead::NoLine => place,
+    }
 }
 
 // The work: the line of a text at a place.
@@ -26,16 +43,26 @@ pub fn new<'a>(text: &'a [u8], at: usize) -> LineReader<'a>
     LineReader { text, at }
 }
 
-// The line at the reader's place.
-pub fn next<'a>(reader: LineReader<'a>) -> LineRead
-    ensures { λ r. ⌜ r ≡ readAt (now (reader .entry .text)) (reader .entry .at) ⌝ }
+// Reads the line at the reader's place, and moves the reader behind it.
+pub fn next<'s, 'a>(reader: &'s mut LineReader<'a>) -> LineRead
+    ensures { λ r. ⌜ (r ≡ readAt (now (now (reader .entry) .text)) (now (reader .entry) .at))
+        × (now (reader .exit) ≡ readerBehind (now (reader .entry)) r) ⌝ }
 {
-    read_at(reader.text, reader.at)
+    let at = reader.at;
+    let line = read_at(reader.text, at);
+    let behind = place_behind(line, at);
+    reader.at = behind;
+    line
 }
 
-// The line of a text at a place, through a reader. Its own parameters are plain, so whoever calls it needs no proof by hand.
-pub fn read_line(text: &[u8], at: usize) -> LineRead
-    ensures { λ r. ⌜ r ≡ readAt (now (text .entry)) at ⌝ }
+// The line of a text at a place, through a reader, and where the reader then stands. Its own parameters are plain, so whoever calls it needs no proof by hand.
+pub fn read_line(text: &[u8], at: usize) -> LineStep
+    ensures { λ r. ⌜ r ≡ stepAt (now (text .entry)) at ⌝ }
 {
-    next(new(text, at))
+    let mut reader = new(text, at);
+    let line = next(&mut reader);
+    LineStep {
+        line,
+        at: reader.at,
+    }
 }

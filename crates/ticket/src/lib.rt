@@ -2,7 +2,6 @@
 use formats::HeaderAnswer;
 use formats::LineAnswer;
 use formats::Place;
-use lines::Cursor;
 use lines::LineRead;
 use tables::InstanceTable;
 ghost use mathlib.Core.Path.{_≡_};
@@ -45,18 +44,20 @@ pub fn read_header(text: &[u8]) -> HeaderRead
     if text.len() == 0 {
         return HeaderRead::Refused(3, 1);
     }
+    let step = reader::read_line(text, 0);
+    let line = step.line;
     let LineRead::Line {
         size,
         head,
         tail,
-        next,
-    } = reader::read_line(text, 0)
+        ..
+    } = line
     else {
         return HeaderRead::Refused(2, 1);
     };
     let answer = ticket_lines::header_line(size, head, tail);
     match answer {
-        HeaderAnswer::Limits(n, t) => HeaderRead::Limits(n, t, next.at),
+        HeaderAnswer::Limits(n, t) => HeaderRead::Limits(n, t, step.at),
         HeaderAnswer::Refused(number) => HeaderRead::Refused(number, 1),
     }
 }
@@ -71,7 +72,7 @@ fn at_end(place: Place, k: u16) -> TicketAnswer
     TicketAnswer::Accepted
 }
 
-// Reads the lines of a ticket behind its header, from `at` on, into lent arrays that hold nothing yet; k is the number of the line at the cursor.
+// Reads the lines of a ticket behind its header, from `at` on, into lent arrays that hold nothing yet; k is the number of the line that begins `here`.
 pub fn read_rest(
     text: &[u8],
     n: u8,
@@ -89,19 +90,21 @@ pub fn read_rest(
         (tableOf n t (now (values .exit)) (now («crash_rounds» .exit)) (now (steps .exit)) (now (reached .exit)) (now (counts .exit)))
         ≡ readTicket (now (text .entry)) ⌝ }
 {
-    let mut here = Cursor { at };
+    let mut here = at;
     let mut place = Place::Proposals(0);
     let mut k: u16 = 2;
     loop {
-        if text.len() <= here.at {
+        if text.len() <= here {
             return at_end(place, k);
         }
+        let step = reader::read_line(text, here);
+        let line = step.line;
         let LineRead::Line {
             size,
             head,
             tail,
-            next,
-        } = reader::read_line(text, here.at)
+            ..
+        } = line
         else {
             return TicketAnswer::Refused(2, k);
         };
@@ -121,7 +124,7 @@ pub fn read_rest(
             LineAnswer::End => place = Place::Ended,
             LineAnswer::Refused(number) => return TicketAnswer::Refused(number, k),
         }
-        here = next;
+        here = step.at;
         k += 1;
     }
 }

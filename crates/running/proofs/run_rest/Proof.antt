@@ -1,5 +1,5 @@
 -- `running::run_rest` meets its contract: each answer is a law of Answers, at what reading the rest of the ticket ensures. Assumes nothing.
-use mathlib.Core.Path.{_≡_, refl}
+use mathlib.Core.Path.{_≡_}
 use borrow.Author.Needs.{needs}
 use native.Mathlib.Omega.{arith}
 use Rattle.tables.specs.InstanceOfTable.{instanceOf, tableOf}

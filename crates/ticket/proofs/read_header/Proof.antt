@@ -2,15 +2,16 @@
 use mathlib.Core.Path.{sym, _∙_}
 use native.Mathlib.Omega.{arith}
 use borrow.Author.Needs.{needs}
-use Rattle.lines.proofs.Read.{LineAt, read-line}
+use Rattle.lines.proofs.Read.{LineAt}
+use Rattle.reader.proofs.Stepped.{step-read, step-line}
 use Rattle.ticket.proofs.HeaderAnswers.{too-long, no-text, no-header, header-refused, header-says}
 use Rattle.ticket.proofs.read_header.Statement.{statement}
 use Rattle.ticket.proofs.read_header.Tie as tie
 
 -- The line that was read.
-line-here : (c : tie.After-size) → LineAt (c .before .before .before .before .before .before .args .text .now) 0
-    (c .size .given .0 .0) (c .size .given .0 .1 .0) (c .size .given .0 .1 .1 .0) (c .size .given .0 .1 .1 .1 .0)
-line-here c = read-line _ _ _ _ _ _ (sym (c .before .before .read-line .ensures) ∙ c .size .given .1)
+line-here : (c : tie.After-line) → let read = c .before .before in let start = read .before .before .before .before in
+    LineAt (start .args .text .now) 0 (c .line .given .0 .0) (c .line .given .0 .1 .0) (c .line .given .0 .1 .1 .0) (record { at = read .read-line .result .at })
+line-here c = step-line _ _ _ (c .before .before .read-line .ensures) _ _ _ _ (c .line .given .1)
 
 returns : tie.Need-returns
 returns c = too-long _ (omega arith)
@@ -21,14 +22,14 @@ returns-2 c = no-text _ (omega arith) (omega arith)
 read-line-requires : tie.Need-read-line-requires
 read-line-requires c κs = search needs
 
-enum-known-size : tie.Need-enum-known-size
-enum-known-size c = search needs
+enum-known-line : tie.Need-enum-known-line
+enum-known-line c = search needs
 
 enum-told : tie.Need-enum-told
 enum-told c = search needs
 
 returns-3 : tie.Need-returns-3
-returns-3 c = no-header _ (omega arith) (omega arith) (sym (c .before .before .read-line .ensures) ∙ c .enum-told .given .1)
+returns-3 c = no-header _ (omega arith) (omega arith) (sym (step-read _ _ _ (c .before .before .read-line .ensures)) ∙ c .enum-told .given .1)
 
 header-line-requires : tie.Need-header-line-requires
 header-line-requires c κs = search needs
@@ -56,7 +57,7 @@ read-header-spec =
     returns
     returns-2
     read-line-requires
-    enum-known-size
+    enum-known-line
     enum-told
     returns-3
     header-line-requires

@@ -1,12 +1,13 @@
 -- `read_rest` meets its contract: the loop keeps that what is left is read on from here. Assumes nothing.
-use mathlib.Core.Path.{_≡_, refl, sym, _∙_}
+use mathlib.Core.Path.{sym, _∙_}
 use mathlib.Core.Logic.{⊎-elim}
 use Prim.Native.Nat.{_-_, _≤_, _<_}
 use native.Mathlib.Omega.{arith}
 use lib.ListN.{length}
 use borrow.Author.Needs.{needs}
 use Rattle.tables.specs.InstanceOfTable.{tableOf}
-use Rattle.lines.proofs.Read.{LineAt, read-line}
+use Rattle.lines.proofs.Read.{LineAt}
+use Rattle.reader.proofs.Stepped.{step-read, step-line}
 use Rattle.ticket.proofs.Reached.{reached-start, reached-end, reached-no-line, Reached, same-place}
 use Rattle.ticket.proofs.Reached.{proposal-place, crash-place, reached-refused, reached-proposal, reached-crash, reached-ended}
 use Rattle.ticket.proofs.read_rest.Statement.{statement}
@@ -14,20 +15,20 @@ use Rattle.ticket.proofs.read_rest.Tie as tie
 
 abbrev Inv-loop : tie.InvT-loop
 Inv-loop text n t at values₀ rounds₀ steps₀ reached₀ counts₀ here₀ place₀ k₀ values rounds steps reached counts here place k =
-    Reached text (tableOf n t values rounds steps reached counts) (here .at) place k
+    Reached text (tableOf n t values rounds steps reached counts) here place k
 
 abbrev μ-loop : tie.MeasureT-loop
-μ-loop text n t at values₀ rounds₀ steps₀ reached₀ counts₀ here₀ place₀ k₀ values rounds steps reached counts here place k = length text - here .at
+μ-loop text n t at values₀ rounds₀ steps₀ reached₀ counts₀ here₀ place₀ k₀ values rounds steps reached counts here place k = length text - here
 
 -- The turn of the loop in which a line was looked for.
 abbrev turn : tie.After-read-line Inv-loop μ-loop → tie.At-loop Inv-loop μ-loop
-turn c = c .before .before .before
+turn c = c .before .before
 
 -- The line that was read.
-line-here : (c : tie.After-size Inv-loop μ-loop) → let here = turn (c .before .before) in
-    LineAt (here .before .before .args .text .now) (here .loop .here .at)
-    (c .size .given .0 .0) (c .size .given .0 .1 .0) (c .size .given .0 .1 .1 .0) (c .size .given .0 .1 .1 .1 .0)
-line-here c = read-line _ _ _ _ _ _ (sym (c .before .before .read-line .ensures) ∙ c .size .given .1)
+line-here : (c : tie.After-line Inv-loop μ-loop) → let read = c .before .before in
+    LineAt (turn read .before .before .args .text .now) (turn read .loop .here) (c .line .given .0 .0) (c .line .given .0 .1 .0) (c .line .given .0 .1 .1 .0)
+    (record { at = read .read-line .result .at })
+line-here c = step-line _ _ _ (c .before .before .read-line .ensures) _ _ _ _ (c .line .given .1)
 
 loop-holds : tie.Need-loop-holds Inv-loop μ-loop
 loop-holds c = reached-start _ _ _ _ (c .before .pre .0) _ (c .before .pre .1)
@@ -36,13 +37,13 @@ at-end-requires : tie.Need-at-end-requires Inv-loop μ-loop
 at-end-requires c κs = search needs
 
 returns : tie.Need-returns Inv-loop μ-loop
-returns c = reached-end _ _ _ _ _ (c .before .before .before .loop .inv) (omega arith) _ (c .at-end .ensures)
+returns c = reached-end _ _ _ _ _ (c .before .before .loop .inv) (omega arith) _ (c .at-end .ensures)
 
 read-line-requires : tie.Need-read-line-requires Inv-loop μ-loop
 read-line-requires c κs = search needs
 
-enum-known-size : tie.Need-enum-known-size Inv-loop μ-loop
-enum-known-size c = search needs
+enum-known-line : tie.Need-enum-known-line Inv-loop μ-loop
+enum-known-line c = search needs
 
 enum-told : tie.Need-enum-told Inv-loop μ-loop
 enum-told c = search needs
@@ -50,7 +51,7 @@ enum-told c = search needs
 returns-2 : tie.Need-returns-2 Inv-loop μ-loop
 returns-2 c =
     let answered = c .before .before in
-    reached-no-line _ _ _ _ _ (turn answered .loop .inv) (omega arith) (sym (c .enum-told .given .1) ∙ answered .read-line .ensures)
+    reached-no-line _ _ _ _ _ (turn answered .loop .inv) (omega arith) (sym (c .enum-told .given .1) ∙ step-read _ _ _ (answered .read-line .ensures))
 
 accept-line-requires : tie.Need-accept-line-requires Inv-loop μ-loop
 accept-line-requires c κs = turn (c .before .before .before) .loop .inv .places
@@ -78,7 +79,7 @@ enum-known-lines : tie.Need-enum-known-lines Inv-loop μ-loop
 enum-known-lines c = search needs
 
 -- The place of a crash.
-crash-here : (c : tie.After-struct-known2 Inv-loop μ-loop) → let said = c .before .before .lines .given .0 .1 .0 in (1 ≤ said .process) × (said .process ≤ 64)
+crash-here : (c : tie.After-struct-known Inv-loop μ-loop) → let said = c .before .before .lines .given .0 .1 .0 in (1 ≤ said .process) × (said .process ≤ 64)
 crash-here c =
     let taken = c .before .before .before .before in
     let line = taken .before .before in
@@ -148,7 +149,7 @@ read-rest-spec =
     at-end-requires
     returns
     read-line-requires
-    enum-known-size
+    enum-known-line
     enum-told
     returns-2
     accept-line-requires
