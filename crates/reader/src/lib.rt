@@ -4,7 +4,7 @@ use lines::Cursor;
 use lines::LineRead;
 ghost use mathlib.Core.Path.{_≡_};
 ghost use Rattle.lines.specs.Read.{readAt};
-ghost use Rattle.reader.specs.LineVerdict.{placeBehind, readerBehind, stepAt};
+ghost use Rattle.reader.specs.Advance.{placeBehind, readerBehind, advanceAt};
 
 // The ticket bytes, and the place at which the next line begins.
 pub struct LineReader<'a> {
@@ -13,7 +13,7 @@ pub struct LineReader<'a> {
 }
 
 // A line, and the place at which the next one begins.
-pub struct LineStep {
+pub struct Advance {
     pub line: LineRead,
     pub at: usize,
 }
@@ -56,12 +56,12 @@ pub fn next<'s, 'a>(reader: &'s mut LineReader<'a>) -> LineRead
 }
 
 // The line of a text at a place, through a reader, and where the reader then stands. Its own parameters are plain, so whoever calls it needs no proof by hand.
-pub fn read_line(text: &[u8], at: usize) -> LineStep
-    ensures { λ r. ⌜ r ≡ stepAt (now (text .entry)) at ⌝ }
+pub fn read_line(text: &[u8], at: usize) -> Advance
+    ensures { λ r. ⌜ r ≡ advanceAt (now (text .entry)) at ⌝ }
 {
     let mut reader = new(text, at);
     let line = next(&mut reader);
-    LineStep {
+    Advance {
         line,
         at: reader.at,
     }

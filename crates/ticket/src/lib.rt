@@ -44,8 +44,8 @@ pub fn read_header(text: &[u8]) -> HeaderRead
     if text.len() == 0 {
         return HeaderRead::Refused(3, 1);
     }
-    let step = reader::read_line(text, 0);
-    let line = step.line;
+    let ahead = reader::read_line(text, 0);
+    let line = ahead.line;
     let LineRead::Line {
         size,
         head,
@@ -57,7 +57,7 @@ pub fn read_header(text: &[u8]) -> HeaderRead
     };
     let answer = ticket_lines::header_line(size, head, tail);
     match answer {
-        HeaderAnswer::Limits(n, t) => HeaderRead::Limits(n, t, step.at),
+        HeaderAnswer::Limits(n, t) => HeaderRead::Limits(n, t, ahead.at),
         HeaderAnswer::Refused(number) => HeaderRead::Refused(number, 1),
     }
 }
@@ -97,8 +97,8 @@ pub fn read_rest(
         if text.len() <= here {
             return at_end(place, k);
         }
-        let step = reader::read_line(text, here);
-        let line = step.line;
+        let ahead = reader::read_line(text, here);
+        let line = ahead.line;
         let LineRead::Line {
             size,
             head,
@@ -124,7 +124,7 @@ pub fn read_rest(
             LineAnswer::End => place = Place::Ended,
             LineAnswer::Refused(number) => return TicketAnswer::Refused(number, k),
         }
-        here = step.at;
+        here = ahead.at;
         k += 1;
     }
 }

@@ -50,7 +50,7 @@ use denote.Triple.Walked.{says, Stays, stay-ref, walkOf, goes-ref, Walks, ends-a
 use denote.Triple.Clauses.{ensured, lasts}
 use Rattle.lines.specs.declared.LineRead.{LineRead}
 use Rattle.lines.specs.Read.{readAt}
-use Rattle.reader.specs.LineVerdict.{placeBehind, readerBehind}
+use Rattle.reader.specs.Advance.{placeBehind, readerBehind}
 use Rattle.reader.specs.declared.LineReader.{LineReader}
 use Rattle.lines.proofs.LineRead as Answer
 use Rattle.lines.proofs.LineRead.Laws as Answer′

@@ -52,15 +52,15 @@ use denote.Exit.{yes}
 use denote.Triple.Clauses.{ensured, lasts}
 use Rattle.lines.specs.Read.{readAt}
 use Rattle.lines.specs.declared.LineRead.{LineRead}
-use Rattle.reader.specs.LineVerdict.{placeBehind, readerBehind, stepAt}
+use Rattle.reader.specs.Advance.{placeBehind, readerBehind, advanceAt}
 use Rattle.reader.specs.declared.LineReader.{LineReader}
-use Rattle.reader.specs.declared.LineStep.{LineStep}
+use Rattle.reader.specs.declared.Advance.{Advance}
 use Rattle.lines.proofs.LineRead as Answer
 use Rattle.lines.proofs.LineRead.Laws as Answer′
 use Rattle.reader.proofs.LineReader as Reader
 use Rattle.reader.proofs.LineReader.Laws as Reader′
-use Rattle.reader.proofs.LineStep as LineVerdict
-use Rattle.reader.proofs.LineStep.Laws as LineVerdict′
+use Rattle.reader.proofs.Advance as Advance
+use Rattle.reader.proofs.Advance.Laws as Advance′
 use Rattle.reader.proofs.new as new
 use Rattle.reader.proofs.new.Symbol as new-def
 use Rattle.reader.proofs.new.Symbol.{name as #reader·new}
@@ -175,7 +175,7 @@ module _ {M : Type 1} (𝓤 : URA M) (H : Heap 𝓤) (A : Atoms 𝓤) (W : Given
       nothing ! $ move ! (3 ∷ 0 ∷ []) $ fjoin ! $ nothing ! $ move ! (3 ∷ 0 ∷ []) $ join ! $ move ! (2 ∷ 0 ∷ []) $ join ! $ join ! $ frame ! $ done !
 
   -- the answer, its machine value
-  abbrev answer : LineRead → ℕ → LineStep
+  abbrev answer : LineRead → ℕ → Advance
   answer line n = record { line = line; at = n }
 
   abbrev answered : Val → ℕ → Val
@@ -184,8 +184,8 @@ module _ {M : Type 1} (𝓤 : URA M) (H : Heap 𝓤) (A : Atoms 𝓤) (W : Given
   -- what the two contracts say of the answer
   step-is : (reader after : LineReader) (line : LineRead) → (reader .text ≡ text) × (reader .at ≡ place)
       → (line ≡ readAt (now (reader .text)) (reader .at)) × (after ≡ readerBehind reader line)
-      → answer line (after .at) ≡ stepAt (now text) place
-  unfolding stepAt
+      → answer line (after .at) ≡ advanceAt (now text) place
+  unfolding advanceAt
   step-is reader after line e g =
       let read : line ≡ readAt (now text) place = g .0 ∙ (ap (λ (x : RefT (List ℕ)). readAt (now x) (reader .at)) (e .0) ∙ ap (readAt (now text)) (e .1)) in
       let behind : after .at ≡ placeBehind line place = ap (λ (r : LineReader). r .at) (g .1) ∙ ap (placeBehind line) (e .1) in
@@ -196,10 +196,10 @@ module _ {M : Type 1} (𝓤 : URA M) (H : Heap 𝓤) (A : Atoms 𝓤) (W : Given
   abbrev had : LineRead → ℕ → List Val × (List Val × Unit {0}) → Fml
   had line n vss = fsep (Answer.the-row .own line (vss .0)) (fsep (usize .own n (vss .1 .0)) ftrue)
 
-  exits : (line : LineRead) (u : Val) (n : ℕ) → answer line n ≡ stepAt (now text) place
-      → ent 𝓤 (⋆ 𝓤 H A (‵ (LineVerdict.the-row .own (answer line n) (answered u n ∷ [])) ∷ ‵ (flft κ q) ∷ ‵ Own ∷ [])) (Post (answered u n))
+  exits : (line : LineRead) (u : Val) (n : ℕ) → answer line n ≡ advanceAt (now text) place
+      → ent 𝓤 (⋆ 𝓤 H A (‵ (Advance.the-row .own (answer line n) (answered u n ∷ [])) ∷ ‵ (flft κ q) ∷ ‵ Own ∷ [])) (Post (answered u n))
   exits line u n e =
-      qed W (‵ (LineVerdict.the-row .own (answer line n) (answered u n ∷ [])) ∷ ‵ (flft κ q) ∷ ‵ Own ∷ []) ∵
+      qed W (‵ (Advance.the-row .own (answer line n) (answered u n ∷ [])) ∷ ‵ (flft κ q) ∷ ‵ Own ∷ []) ∵
       suffices ! _
       (ends-at 𝓤 H A read-line.ended stayed (read-line.clauses 𝓤 H A at-mem run) W (((κ, tt), (q, tt), tt, (text, (place, tt)), passed), tt)
       (answered u n) (answer line n) (tt, (tt, tt)) (tt, (tt, tt))) $ says ! e $
@@ -254,11 +254,11 @@ module _ {M : Type 1} (𝓤 : URA M) (H : Heap 𝓤) (A : Atoms 𝓤) (W : Given
         (init ! 8 refl (tt, record { fits = was .1 .1 .1 .0 .1 })) $
         -- the answer is made of the line and the reader's place
         nothing ! $ owned ! usize (Is usize) (uint-makes 𝓤 H A W w64) (zs .0 .at) _ (refl, was .1 .1 .1 .0 .1) $ fjoin ! $ move ! (5 ∷ 0 ∷ []) $ fjoin ! $
-        use1 W (‵ (LineVerdict.the-row .own (answer line (zs .0 .at)) (answered w (zs .0 .at) ∷ [])))
+        use1 W (‵ (Advance.the-row .own (answer line (zs .0 .at)) (answered w (zs .0 .at) ∷ [])))
         (makes 𝓤 H A W (Answer.the-row ∷ usize ∷ []) (had line (zs .0 .at)) (w ∷ [], (vint w64 (zs .0 .at) ∷ [], tt))) $
-        peeks ! LineVerdict.the-row (Is LineVerdict.the-row) (shows 𝓤 H A LineVerdict.the-row) (answer line (zs .0 .at)) (answered w (zs .0 .at) ∷ []) (λ made.
+        peeks ! Advance.the-row (Is Advance.the-row) (shows 𝓤 H A Advance.the-row) (answer line (zs .0 .at)) (answered w (zs .0 .at) ∷ []) (λ made.
         assigns ! (agg ! (and-then ! (load ! (from ! (stop !)) (look ! 14 refl)) (and-then ! (load ! (from ! (stop !)) (look ! 8 refl)) (no-more !)))) (from ! (stop !))
-        (init ! 21 refl (LL.lawful LineVerdict.the-type LineVerdict′.the-laws 𝓤 H A W .typed (answer line (zs .0 .at)) _ made .0)) $
+        (init ! 21 refl (LL.lawful Advance.the-type Advance′.the-laws 𝓤 H A W .typed (answer line (zs .0 .at)) _ made .0)) $
         returns ! (look ! 21 refl) $ forget ! 1 refl $ forget ! 8 refl $ forget ! 10 refl $ forget ! 12 refl $ forget ! 14 refl $ forget ! 17 refl $ forget ! 19 refl $
         forget ! 21 refl $ move ! (21 ∷ 22 ∷ []) $ free1 ! $ move ! (19 ∷ 20 ∷ []) $ free1 ! $ move ! (17 ∷ 18 ∷ []) $ free1 ! $ move ! (1 ∷ 16 ∷ []) $ free1 ! $
         move ! (13 ∷ 14 ∷ []) $ free1 ! $ move ! (11 ∷ 12 ∷ []) $ free1 ! $ move ! (9 ∷ 10 ∷ []) $ free1 ! $ move ! (7 ∷ 8 ∷ []) $ free1 ! $ free0 ! $

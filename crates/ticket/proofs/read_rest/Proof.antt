@@ -7,7 +7,7 @@ use lib.ListN.{length}
 use borrow.Author.Needs.{needs}
 use Rattle.tables.specs.InstanceOfTable.{tableOf}
 use Rattle.lines.proofs.Read.{LineAt}
-use Rattle.reader.proofs.Stepped.{step-read, step-line}
+use Rattle.reader.proofs.Advanced.{advance-read, advance-line}
 use Rattle.ticket.proofs.Reached.{reached-start, reached-end, reached-no-line, Reached, same-place}
 use Rattle.ticket.proofs.Reached.{proposal-place, crash-place, reached-refused, reached-proposal, reached-crash, reached-ended}
 use Rattle.ticket.proofs.read_rest.Statement.{statement}
@@ -28,7 +28,7 @@ turn c = c .before .before
 line-here : (c : tie.After-line Inv-loop μ-loop) → let read = c .before .before in
     LineAt (turn read .before .before .args .text .now) (turn read .loop .here) (c .line .given .0 .0) (c .line .given .0 .1 .0) (c .line .given .0 .1 .1 .0)
     (record { at = read .read-line .result .at })
-line-here c = step-line _ _ _ (c .before .before .read-line .ensures) _ _ _ _ (c .line .given .1)
+line-here c = advance-line _ _ _ (c .before .before .read-line .ensures) _ _ _ _ (c .line .given .1)
 
 loop-holds : tie.Need-loop-holds Inv-loop μ-loop
 loop-holds c = reached-start _ _ _ _ (c .before .pre .0) _ (c .before .pre .1)
@@ -51,7 +51,7 @@ enum-told c = search needs
 returns-2 : tie.Need-returns-2 Inv-loop μ-loop
 returns-2 c =
     let answered = c .before .before in
-    reached-no-line _ _ _ _ _ (turn answered .loop .inv) (omega arith) (sym (c .enum-told .given .1) ∙ step-read _ _ _ (answered .read-line .ensures))
+    reached-no-line _ _ _ _ _ (turn answered .loop .inv) (omega arith) (sym (c .enum-told .given .1) ∙ advance-read _ _ _ (answered .read-line .ensures))
 
 accept-line-requires : tie.Need-accept-line-requires Inv-loop μ-loop
 accept-line-requires c κs = turn (c .before .before .before) .loop .inv .places

@@ -7,7 +7,7 @@ use Rattle.lines.specs.declared.Cursor.{Cursor}
 use Rattle.lines.specs.declared.LineRead.{LineRead}
 use Rattle.lines.specs.declared.LineRead.the-variants.{Line, NoLine}
 use Rattle.reader.specs.declared.LineReader.{LineReader}
-use Rattle.reader.specs.declared.LineStep.{LineStep}
+use Rattle.reader.specs.declared.Advance.{Advance}
 
 -- The start of the next line; where none was read, the place stays.
 unfoldable pub placeBehind : LineRead → ℕ → ℕ
@@ -19,5 +19,5 @@ abbrev pub readerBehind : LineReader → LineRead → LineReader
 readerBehind reader line = record { text = reader .text; at = placeBehind line (reader .at) }
 
 -- The line of a text at a place, and the place behind it.
-unfoldable pub stepAt : List ℕ → ℕ → LineStep
-stepAt text at = record { line = readAt text at; at = placeBehind (readAt text at) at }
+unfoldable pub advanceAt : List ℕ → ℕ → Advance
+advanceAt text at = record { line = readAt text at; at = placeBehind (readAt text at) at }
