@@ -18,7 +18,7 @@ use Rattle.formats.specs.ResultLine.{refusalLine}
 use Rattle.formats.specs.Running.{resultIn, running, written, programWrites}
 use Rattle.formats.proofs.LineReadBack.{line-read-back}
 use Rattle.formats.proofs.RefusalRange.{RefusedBy, lastRefused, ticket-refused}
-use Rattle.demands.specs.Said.{lineAt, refusalFrom, refusalSaid}
+use Rattle.demands.specs.OutputSays.{lineAt, refusalFrom, refusalSaid}
 use Rattle.formats.specs.Reading.{Reading, refused}
 use Rattle.formats.specs.Code.{refusalsFrom, SettlesAs}
 use Rattle.formats.proofs.Passing.{refused-accepted}

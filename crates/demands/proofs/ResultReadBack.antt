@@ -17,7 +17,7 @@ use Rattle.coordinator.specs.Run.{Run}
 use Rattle.formats.specs.Line.{Line, bytes, noLine, linesOf}
 use Rattle.formats.specs.Says.{isKind}
 use Rattle.formats.specs.ResultLine.{endBytes, processLine, lastLine, joined, resultLines}
-use Rattle.demands.specs.Said.{isProcessLine, endIn, endFrom, countsIn, countsFrom, lineAt, endSaid, countsSaid}
+use Rattle.demands.specs.OutputSays.{isProcessLine, endIn, endFrom, countsIn, countsFrom, lineAt, endSaid, countsSaid}
 use Rattle.formats.proofs.LineReadBack.{line-read-back}
 
 -- A process that ended so can be read back: it has decided or crashed, in a round of one byte, on a value of four.

@@ -1,15 +1,17 @@
 -- The premises of the claims are met by case 1: computed from its text and those that it is paired with. Assumes nothing.
 use mathlib.Core.List.{List, [], _∷_}
 use mathlib.Core.Path.{refl}
-use Prim.Native.Nat.{ℕ}
+use Prim.Native.Nat.{ℕ, zero, suc, _-_}
 use native.Mathlib.Omega.{arith}
 use lib.Count.{onesIn}
-use lib.ListN.{replicate}
+use lib.ListN.{replicate, getD}
 use Rattle.general.specs.Bits.{member, ones64}
 use Rattle.general.specs.BigEndian.{number, numberFrom, bytesOf}
 use Rattle.general.specs.Indexed.{mapFrom}
 use Rattle.general.specs.Text.{ascii}
 use Rattle.consensus.specs.Instance.{Instance, Fault, correct, crashes, duringCommits, pointFrom, faultOf, withinLimits}
+use Rattle.consensus.specs.FourProcesses.{four}
+use Rattle.coordinator.specs.Pairing.{LinePaired, same, moreCommits, missing, Paired}
 use Rattle.coordinator.specs.Message.{arriving}
 use Rattle.coordinator.specs.Transition.{sends, receives}
 use Rattle.coordinator.specs.Delivery.{amongFirst, reachAt, reachIn, reach}
@@ -30,15 +32,23 @@ use Rattle.formats.specs.HexText.{digitOf, hexDigits, hexLine}
 use Rattle.formats.specs.ResultLine.{endBytes, processLine, lastLine, joined, resultLines, resultText, resultSize}
 use Rattle.formats.specs.Running.{resultIn, running, bufferAfter}
 use Rattle.formats.specs.Code.{runCode}
-use Rattle.formats.specs.Table.{textOf, opening, case1, case3}
+use Rattle.formats.specs.Table.{textOf, opening}
 use Rattle.running.specs.Answer.{answerOf}
 use Rattle.demands.specs.PairedTexts.{CommitLine, PairedTexts, noLines, sameLine, countNoLower, missingLine}
 use Rattle.demands.specs.Witnesses.{crashText, moreCommitsText, noCrashText, PairMet, RunMet, Witnesses}
 
 -- Case 1's instance, but for process 1's fault.
 abbrev instanceWith : Fault → Instance
-instanceWith fault =
-    record { processes = 4; resilience = 2; proposals = 10 ∷ 20 ∷ 30 ∷ 40 ∷ []; pattern = fault ∷ correct ∷ correct ∷ correct ∷ [] }
+instanceWith fault = four (fault ∷ correct ∷ correct ∷ correct ∷ [])
+
+-- Two such instances are paired if the two faults are.
+paired-with : (fault fault′ : Fault) → LinePaired fault fault′ → Paired (instanceWith fault) (instanceWith fault′)
+unfolding four faultOf
+paired-with fault fault′ line = record { processes = refl; resilience = refl; proposals = refl; lines = λ p process. at-place (p - 1) }
+  where
+    at-place : (i : ℕ) → LinePaired (getD (fault ∷ correct ∷ correct ∷ correct ∷ []) i correct) (getD (fault′ ∷ correct ∷ correct ∷ correct ∷ []) i correct)
+    at-place zero = line
+    at-place (suc i) = same
 
 -- The bytes of its failure line, with this count.
 abbrev commitLine : ℕ → List ℕ
@@ -48,43 +58,41 @@ is-commit-line : (count : ℕ) → CommitLine (commitLine count)
 is-commit-line count = omega arith
 
 paired-commits : PairedTexts crashText moreCommitsText
-unfolding PairedTexts crashText moreCommitsText noCrashText opening case1 case3 textOf ascii digitValue isDigit scan closed unclosed linesFrom linesOf
+unfolding PairedTexts crashText moreCommitsText noCrashText opening textOf ascii digitValue isDigit scan closed unclosed linesFrom linesOf
 paired-commits =
     sameLine (sameLine (sameLine (sameLine (sameLine (countNoLower (is-commit-line 1) (is-commit-line 3) refl (omega arith) (sameLine noLines))))))
 
 paired-missing : PairedTexts crashText noCrashText
-unfolding PairedTexts crashText moreCommitsText noCrashText opening case1 case3 textOf ascii digitValue isDigit scan closed unclosed linesFrom linesOf
+unfolding PairedTexts crashText moreCommitsText noCrashText opening textOf ascii digitValue isDigit scan closed unclosed linesFrom linesOf
 paired-missing = sameLine (sameLine (sameLine (sameLine (sameLine (missingLine (is-commit-line 1) (sameLine noLines))))))
 
 more-commits : PairMet crashText moreCommitsText 2 1
-unfolding endOf crashText moreCommitsText noCrashText opening case1 case3 textOf ascii onesIn member ones64 number numberFrom bytesOf mapFrom pointFrom faultOf withinLimits arriving sends receives amongFirst reachAt reachIn reach stateOf crashesIn sentBy received afterOutcome after statesAfter isUndecided anyUndecided dataAt commitsAt countIn speaks dataIn commitsIn isIdle countsAsCrash crashCount initial withRound runTo runOf crashesOf digitValue isDigit scan closed unclosed linesFrom linesOf proceed readFrom isKind headerSays afterProposal proposalSays failureLine placesCrash allBetween suitsStep crashSays failureSays lineSays unproposed withProposal withCrash begin store accept atEnd readTicket
+unfolding four endOf crashText moreCommitsText noCrashText opening textOf ascii onesIn member ones64 number numberFrom bytesOf mapFrom pointFrom faultOf withinLimits arriving sends receives amongFirst reachAt reachIn reach stateOf crashesIn sentBy received afterOutcome after statesAfter isUndecided anyUndecided dataAt commitsAt countIn speaks dataIn commitsIn isIdle countsAsCrash crashCount initial withRound runTo runOf crashesOf digitValue isDigit scan closed unclosed linesFrom linesOf proceed readFrom isKind headerSays afterProposal proposalSays failureLine placesCrash allBetween suitsStep crashSays failureSays lineSays unproposed withProposal withCrash begin store accept atEnd readTicket
 more-commits =
     record {
       first = instanceWith (crashes 1 (duringCommits 1));
       second = instanceWith (crashes 1 (duringCommits 3));
-      read = refl;
-      readSecond = refl;
-      paired = paired-commits;
+      lines = paired-commits;
+      instances = record { first = refl; second = refl; paired = paired-with _ _ (moreCommits (omega arith)) };
       decides = record { process = omega arith; state = refl };
       decidesSecond = record { process = omega arith; state = refl };
     }
 
 line-missing : PairMet crashText noCrashText 2 1
-unfolding endOf crashText moreCommitsText noCrashText opening case1 case3 textOf ascii onesIn member ones64 number numberFrom bytesOf mapFrom pointFrom faultOf withinLimits arriving sends receives amongFirst reachAt reachIn reach stateOf crashesIn sentBy received afterOutcome after statesAfter isUndecided anyUndecided dataAt commitsAt countIn speaks dataIn commitsIn isIdle countsAsCrash crashCount initial withRound runTo runOf crashesOf digitValue isDigit scan closed unclosed linesFrom linesOf proceed readFrom isKind headerSays afterProposal proposalSays failureLine placesCrash allBetween suitsStep crashSays failureSays lineSays unproposed withProposal withCrash begin store accept atEnd readTicket
+unfolding four endOf crashText moreCommitsText noCrashText opening textOf ascii onesIn member ones64 number numberFrom bytesOf mapFrom pointFrom faultOf withinLimits arriving sends receives amongFirst reachAt reachIn reach stateOf crashesIn sentBy received afterOutcome after statesAfter isUndecided anyUndecided dataAt commitsAt countIn speaks dataIn commitsIn isIdle countsAsCrash crashCount initial withRound runTo runOf crashesOf digitValue isDigit scan closed unclosed linesFrom linesOf proceed readFrom isKind headerSays afterProposal proposalSays failureLine placesCrash allBetween suitsStep crashSays failureSays lineSays unproposed withProposal withCrash begin store accept atEnd readTicket
 line-missing =
     record {
       first = instanceWith (crashes 1 (duringCommits 1));
       second = instanceWith correct;
-      read = refl;
-      readSecond = refl;
-      paired = paired-missing;
+      lines = paired-missing;
+      instances = record { first = refl; second = refl; paired = paired-with _ _ missing };
       decides = record { process = omega arith; state = refl };
       decidesSecond = record { process = omega arith; state = refl };
     }
 
 -- The buffer of 100 bytes holds the result and, behind it, what stood there.
 written : RunMet crashText 85
-unfolding answerOf runCode running resultIn bufferAfter resultText resultLines joined lastLine processLine endBytes resultSize hexLine hexDigits digitOf crashText moreCommitsText noCrashText opening case1 case3 textOf ascii onesIn member ones64 number numberFrom bytesOf mapFrom pointFrom faultOf withinLimits arriving sends receives amongFirst reachAt reachIn reach stateOf crashesIn sentBy received afterOutcome after statesAfter isUndecided anyUndecided dataAt commitsAt countIn speaks dataIn commitsIn isIdle countsAsCrash crashCount initial withRound runTo runOf crashesOf digitValue isDigit scan closed unclosed linesFrom linesOf proceed readFrom isKind headerSays afterProposal proposalSays failureLine placesCrash allBetween suitsStep crashSays failureSays lineSays unproposed withProposal withCrash begin store accept atEnd readTicket
+unfolding answerOf runCode running resultIn bufferAfter resultText resultLines joined lastLine processLine endBytes resultSize hexLine hexDigits digitOf crashText moreCommitsText noCrashText opening textOf ascii onesIn member ones64 number numberFrom bytesOf mapFrom pointFrom faultOf withinLimits arriving sends receives amongFirst reachAt reachIn reach stateOf crashesIn sentBy received afterOutcome after statesAfter isUndecided anyUndecided dataAt commitsAt countIn speaks dataIn commitsIn isIdle countsAsCrash crashCount initial withRound runTo runOf crashesOf digitValue isDigit scan closed unclosed linesFrom linesOf proceed readFrom isKind headerSays afterProposal proposalSays failureLine placesCrash allBetween suitsStep crashSays failureSays lineSays unproposed withProposal withCrash begin store accept atEnd readTicket
 written =
     record {
       before = replicate 100 165;

@@ -14,7 +14,7 @@ use Rattle.formats.specs.Ticket.{readTicket}
 use Rattle.formats.specs.FirstWrong.{FirstWrong}
 use Rattle.formats.specs.ResultLine.{resultText, resultSize, refusalLine}
 use Rattle.formats.specs.Running.{programWrites}
-use Rattle.demands.specs.Said.{refusalSaid}
+use Rattle.demands.specs.OutputSays.{refusalSaid}
 use Rattle.part_format.specs.Refused.{RefusedCallsChangeNothing, SpeakAnswersApart}
 use Rattle.formats.specs.Code.{refusalsFrom, refusalCode, RunCall, SettlesAs}
 

@@ -87,7 +87,7 @@ unfoldable pub refusalSaid : List ℕ → Option Refusal
 refusalSaid out = refusalFrom (lineAt out 0)
 
 -- The bytes say that the processes of the instance end so, and that this was counted.
-pub record Says (x : Instance) (out : List ℕ) (ends : ℕ → State) (counts : Counts) : Type 0 where
+pub record OutputSays (x : Instance) (out : List ℕ) (ends : ℕ → State) (counts : Counts) : Type 0 where
   pub states : (p : ℕ) → IsProcess x p → endSaid out p ≡ some (ends p)
   pub last : countsSaid out (x .processes) ≡ some counts
 
