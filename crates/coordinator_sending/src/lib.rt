@@ -8,11 +8,6 @@ ghost use Rattle.coordinator_sending.specs.Sending.{sendingBy, SendingAl
 
 pub mod count;
 
-// The steps of a failure line (document 01, 'The ticket'): before sending anything, and while sending data.
-const BEFORE_SENDING: u8 = 0;
-
-const DURING_DATA: u8 = 1;
-
 // Whom the messages of a round reach: the coordinator itself, which decides its own value, those that its data get to and those that its commits get to.
 pub struct Sent {
     pub coordinator: u64,
@@ -27,14 +22,14 @@ fn interrupted(n: u8, r: u8, step: u8, set: u64, count: u8) -> Sent
     ensures { λ s. ⌜ s ≡ sendingBy n r (crashes r (pointFrom step set count)) true ⌝ }
 {
     let coordinator = sets::only(r);
-    if step == BEFORE_SENDING {
+    if step == consensus::BEFORE_SENDING {
         return Sent {
             coordinator,
             reached: 0,
             committed: 0,
         };
     }
-    if step == DURING_DATA {
+    if step == consensus::DURING_DATA {
         return Sent {
             coordinator,
             reached: set,

@@ -1,4 +1,4 @@
--- `transitions::interrupted` meets its contract: one law for each answer. Assumes nothing.
+-- `interrupted` meets its contract: one law for each answer. Assumes nothing.
 use mathlib.Core.Path.{refl, _∙_}
 use native.Mathlib.Omega.{arith}
 use borrow.Author.Needs.{needs}

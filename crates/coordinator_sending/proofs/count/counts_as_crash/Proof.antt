@@ -1,4 +1,4 @@
--- `transitions::count::counts_as_crash` meets its contract: one law for each answer. Assumes nothing.
+-- `count::counts_as_crash` meets its contract: one law for each answer. Assumes nothing.
 use native.Mathlib.Omega.{arith}
 use borrow.Author.Needs.{needs}
 use Rattle.coordinator_sending.proofs.Counting.{no-line, idle-line, line-of-decided, line-of-other}
