@@ -28,11 +28,13 @@ rounds-claim =
       crashed = λ text x read.
           let formed = accepted-well-formed text x read in
           crashes-are-crashed x formed ∙ ap crashedCount (sym (ends-in-order x formed (endOf x) (λ p process. refl)));
-      noLater = λ a b x y read read′ paired. no-later x y (accepted-well-formed a x read) (accepted-well-formed b y read′) (texts-paired a b x y read read′ paired);
+      noLater = λ a b x y read read′ paired.
+          no-later x y (accepted-well-formed a x read) (accepted-well-formed b y read′) (texts-paired a b x y read read′ paired);
     }
 
 -- The bytes of a result say one thing: what the rounds give.
-module _ (text : List ℕ) (x : Instance) (out : List ℕ) (ends : ℕ → State) (counts : Counts) (wrote : Wrote text x out) (says : OutputSays x out ends counts) where
+module _ (text : List ℕ) (x : Instance) (out : List ℕ) (ends : ℕ → State) (counts : Counts)
+    (wrote : Wrote text x out) (says : OutputSays x out ends counts) where
   ends-said : SameEnds x (endOf x) ends
   unfolding SameEnds
   ends-said p process =

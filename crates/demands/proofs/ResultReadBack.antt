@@ -112,7 +112,8 @@ module _ (run : Run) (f n : ℕ) (fits : RunFits run f n) where
       ∙ end-read-back p _ (fits .states (p - 1) (omega arith))
 
   -- The counts, by the result.
-  counts-read-back : countsIn lastBytes ≡ some (record { rounds = run .rounds; crashes = f; speakers = run .speakers; dataSent = run .dataSent; commitsSent = run .commitsSent })
+  counts-read-back : countsIn lastBytes
+      ≡ some (record { rounds = run .rounds; crashes = f; speakers = run .speakers; dataSent = run .dataSent; commitsSent = run .commitsSent })
   unfolding countsIn isKind bytesOf
   counts-read-back = rw (number-bytes 2 (run .dataSent) (fits .dataSent), number-bytes 2 (run .commitsSent) (fits .commitsSent))
 

@@ -1,6 +1,5 @@
--- Demand 2 (document 00): "The result of an accepted ticket, desk by desk and count by count, is that of document 001's rounds as condensed in document
--- 01; and separate
--- desk parts, fed the frames that the ticket lets through, decide alike."
+-- Demand 2 (document 00): "The result of an accepted ticket, desk by desk and count by count, is that of document 001's rounds as condensed in document 01;
+-- and separate desk parts, fed the frames that the ticket lets through, decide alike."
 use mathlib.Core.List.{List}
 use Prim.Native.Nat.{ℕ}
 use Rattle.consensus.specs.Instance.{Instance}

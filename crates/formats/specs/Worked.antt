@@ -38,7 +38,7 @@ boundsOf (accepted x) =
     ∷ []
 boundsOf (refused refusal line) = []
 
--- The claim on case 9: of 10 processes 9 crash and 7 speak, and they send 63 messages, which is the bound (document 01, 'Worked runs':
--- "f 9, speakers 7, data 42, commits 21, sum 63, the bound exactly; document 001 gives 55", by its Theorem 2).
+-- The claim on case 9: of 10 processes 9 crash and 7 speak, and they send 63 messages, which is the bound (document 01, 'Worked runs': "f 9, speakers 7,
+-- data 42, commits 21, sum 63, the bound exactly; document 001 gives 55", by its Theorem 2).
 unfoldable pub Case9MeetsBound : Type 0
 Case9MeetsBound = boundsOf (readTicket (textOf (case9 .ticket))) ≡ 10 ∷ 9 ∷ 7 ∷ 63 ∷ 63 ∷ (2 * 55) ∷ []
