@@ -1,4 +1,5 @@
--- What a C caller reads off the number that `uc_run` or `uc_settle` answers (include/agreement.h; docs/DECISIONS.md, S5): answers can be told apart.
+-- For the code alone: what a C caller reads off the number that `uc_run` or `uc_settle` answers, so that answers can be told apart
+-- (include/agreement.h; docs/DECISIONS.md, S5).
 use mathlib.Core.List.{List}
 use mathlib.Core.Path.{_≡_}
 use mathlib.Core.Bool.{true}

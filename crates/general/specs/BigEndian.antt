@@ -1,4 +1,4 @@
--- Numbers as bytes, most significant byte first.
+-- Numbers as bytes (document 01, opening: "most significant byte first").
 use mathlib.Core.List.{List, [], _∷_, _++_}
 use Prim.Native.Nat.{ℕ, zero, suc, _+_, _*_, _/_, _%_}
 

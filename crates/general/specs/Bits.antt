@@ -15,18 +15,18 @@ member p set = eqb (set / 2 ^ (p - 1) % 2) 1
 unfoldable pub ones64 : ℕ → ℕ
 ones64 set = onesIn 64 set
 
--- The members of a set among the processes 1 to k, highest first.
+-- The members of a set among the processes 1 to p, highest first.
 unfoldable pub membersTo : ℕ → ℕ → List ℕ
 membersTo zero set = []
-membersTo (suc k) set =
-    let lower = membersTo k set in
-    cond (member (suc k) set) (suc k ∷ lower) lower
+membersTo (suc p) set =
+    let lower = membersTo p set in
+    cond (member (suc p) set) (suc p ∷ lower) lower
 
--- The set of the processes from 1 to n that pass a test.
+-- For the code alone: the set of the processes from 1 to n that pass a test.
 unfoldable pub setOf : ℕ → (ℕ → Bool) → ℕ
 setOf zero test = 0
 setOf (suc n) test = cond (test (suc n)) 1 0 * 2 ^ n + setOf n test
 
--- A list with x at the place of each member of a set: process p stands at place p - 1.
+-- For the code alone: a list with x at the place of each member of a set; process p stands at place p - 1.
 unfoldable pub filled : (set x : ℕ) → List ℕ → List ℕ
 filled set x l = mapFrom (λ p y. cond (member p set) x y) 1 l
