@@ -22,5 +22,5 @@ pub data PairedLines : List Line → List Line → Type 0 where
   missingLine : {b : List ℕ} {l m : List Line} → CommitLine b → PairedLines l m → PairedLines (bytes b ∷ l) m
 
 -- Two texts are paired if their lines are.
-unfoldable pub PairedTexts : List ℕ → List ℕ → Type 0
+unfoldable pub PairedTexts : (a b : List ℕ) → Type 0
 PairedTexts a b = PairedLines (linesOf a) (linesOf b)
