@@ -1,6 +1,6 @@
 -- The premises of the claims are met by case 1: computed from its text and those that it is paired with. Assumes nothing.
 use mathlib.Core.List.{List, [], _∷_}
-use mathlib.Core.Path.{refl}
+use mathlib.Core.Path.{_≡_, refl}
 use Prim.Native.Nat.{ℕ, zero, suc, _-_}
 use native.Mathlib.Omega.{arith}
 use lib.Count.{onesIn}
@@ -10,6 +10,7 @@ use Rattle.general.specs.BigEndian.{number, numberFrom, bytesOf}
 use Rattle.general.specs.Indexed.{mapFrom}
 use Rattle.general.specs.Text.{ascii}
 use Rattle.consensus.specs.Instance.{Instance, Fault, correct, crashes, duringCommits, pointFrom, faultOf, withinLimits}
+use Rattle.consensus.specs.Consensus.{Decides}
 use Rattle.consensus.specs.FourProcesses.{four}
 use Rattle.coordinator.specs.Pairing.{LinePaired, same, moreCommits, missing, Paired}
 use Rattle.coordinator.specs.Message.{arriving}
@@ -26,7 +27,7 @@ use Rattle.formats.specs.Line.{scan, closed, unclosed, linesFrom, linesOf}
 use Rattle.formats.specs.FailureLine.{placesCrash, allBetween, suitsStep}
 use Rattle.formats.specs.Says.{isKind, headerSays, afterProposal, proposalSays, failureLine, crashSays, failureSays, lineSays}
 use Rattle.formats.specs.Accept.{unproposed, withProposal, withCrash, begin, store, accept}
-use Rattle.formats.specs.Reading.{proceed, readFrom}
+use Rattle.formats.specs.Reading.{accepted, proceed, readFrom}
 use Rattle.formats.specs.Ticket.{atEnd, readTicket}
 use Rattle.formats.specs.HexText.{digitOf, hexDigits, hexLine}
 use Rattle.formats.specs.ResultLine.{endBytes, processLine, lastLine, joined, resultLines, resultText, resultSize}
@@ -66,28 +67,47 @@ paired-missing : PairedTexts crashText noCrashText
 unfolding PairedTexts crashText moreCommitsText noCrashText opening textOf ascii digitValue isDigit scan closed unclosed linesFrom linesOf
 paired-missing = sameLine (sameLine (sameLine (sameLine (sameLine (missingLine (is-commit-line 1) (sameLine noLines))))))
 
+-- Case 1, case 3 and case 1 without its failure line.
+abbrev crash : Instance
+crash = instanceWith (crashes 1 (duringCommits 1))
+
+abbrev allCommits : Instance
+allCommits = instanceWith (crashes 1 (duringCommits 3))
+
+abbrev noCrash : Instance
+noCrash = instanceWith correct
+
+-- The three texts describe them.
+texts-read : (readTicket crashText ≡ accepted crash) × (readTicket moreCommitsText ≡ accepted allCommits) × (readTicket noCrashText ≡ accepted noCrash)
+unfolding four crashText moreCommitsText noCrashText opening textOf ascii number numberFrom pointFrom withinLimits digitValue isDigit scan closed unclosed linesFrom linesOf proceed readFrom isKind headerSays afterProposal proposalSays failureLine placesCrash allBetween suitsStep crashSays failureSays lineSays unproposed withProposal withCrash begin store accept atEnd readTicket
+texts-read = (refl, refl, refl)
+
+-- In each of them process 2 decides 10, in the first a round later than in the others.
+second-decides : Decides crash (endOf crash) 2 2 10 × Decides allCommits (endOf allCommits) 2 1 10 × Decides noCrash (endOf noCrash) 2 1 10
+unfolding four endOf onesIn member ones64 mapFrom faultOf arriving sends receives amongFirst reachAt reachIn reach stateOf crashesIn sentBy received afterOutcome after statesAfter isUndecided anyUndecided dataAt commitsAt countIn speaks dataIn commitsIn initial withRound runTo runOf
+second-decides =
+    (record { process = omega arith; state = refl }, record { process = omega arith; state = refl }, record { process = omega arith; state = refl })
+
 more-commits : PairMet crashText moreCommitsText 2 1
-unfolding four endOf crashText moreCommitsText noCrashText opening textOf ascii onesIn member ones64 number numberFrom bytesOf mapFrom pointFrom faultOf withinLimits arriving sends receives amongFirst reachAt reachIn reach stateOf crashesIn sentBy received afterOutcome after statesAfter isUndecided anyUndecided dataAt commitsAt countIn speaks dataIn commitsIn isIdle countsAsCrash crashCount initial withRound runTo runOf crashesOf digitValue isDigit scan closed unclosed linesFrom linesOf proceed readFrom isKind headerSays afterProposal proposalSays failureLine placesCrash allBetween suitsStep crashSays failureSays lineSays unproposed withProposal withCrash begin store accept atEnd readTicket
 more-commits =
     record {
-      first = instanceWith (crashes 1 (duringCommits 1));
-      second = instanceWith (crashes 1 (duringCommits 3));
+      first = crash;
+      second = allCommits;
       lines = paired-commits;
-      instances = record { first = refl; second = refl; paired = paired-with _ _ (moreCommits (omega arith)) };
-      decides = record { process = omega arith; state = refl };
-      decidesSecond = record { process = omega arith; state = refl };
+      instances = record { first = texts-read .0; second = texts-read .1; paired = paired-with _ _ (moreCommits (omega arith)) };
+      decides = second-decides .0;
+      decidesSecond = second-decides .1;
     }
 
 line-missing : PairMet crashText noCrashText 2 1
-unfolding four endOf crashText moreCommitsText noCrashText opening textOf ascii onesIn member ones64 number numberFrom bytesOf mapFrom pointFrom faultOf withinLimits arriving sends receives amongFirst reachAt reachIn reach stateOf crashesIn sentBy received afterOutcome after statesAfter isUndecided anyUndecided dataAt commitsAt countIn speaks dataIn commitsIn isIdle countsAsCrash crashCount initial withRound runTo runOf crashesOf digitValue isDigit scan closed unclosed linesFrom linesOf proceed readFrom isKind headerSays afterProposal proposalSays failureLine placesCrash allBetween suitsStep crashSays failureSays lineSays unproposed withProposal withCrash begin store accept atEnd readTicket
 line-missing =
     record {
-      first = instanceWith (crashes 1 (duringCommits 1));
-      second = instanceWith correct;
+      first = crash;
+      second = noCrash;
       lines = paired-missing;
-      instances = record { first = refl; second = refl; paired = paired-with _ _ missing };
-      decides = record { process = omega arith; state = refl };
-      decidesSecond = record { process = omega arith; state = refl };
+      instances = record { first = texts-read .0; second = texts-read .2; paired = paired-with _ _ missing };
+      decides = second-decides .0;
+      decidesSecond = second-decides .2;
     }
 
 -- The buffer of 100 bytes holds the result and, behind it, what stood there.
