@@ -1,8 +1,10 @@
 // The messages of a round as sets of processes, and what is counted of it (document 01, 'A round'). Numbers and masks alone: no table.
 ghost use mathlib.Core.Path.{_≡_};
 ghost use mathlib.Core.Bool.{true};
+ghost use Prim.Native.Nat.{_≤_};
 ghost use Rattle.general.specs.Bits.{member};
 ghost use Rattle.consensus.specs.Instance.{crashes, pointFrom};
+ghost use Rattle.coordinator.specs.WellFormed.{PointAllowed};
 ghost use Rattle.tables.specs.InstanceOfTable.{faultFrom};
 ghost use Rattle.coordinator_sending.specs.Sending.{sendingBy, SendingAllowed};
 
@@ -18,7 +20,7 @@ pub struct Sent {
 // What coordinator r, which speaks, sends in the round in which it crashes. Commits go to n, n - 1 and so on downward, so the first `count` of them go to
 // the processes above n - count.
 fn interrupted(n: u8, r: u8, step: u8, set: u64, count: u8) -> Sent
-    requires { ⌜ SendingAllowed n r (crashes r (pointFrom step set count)) ⌝ }
+    requires { ⌜ (1 ≤ r) × (r ≤ n) × (n ≤ 64) × PointAllowed n r r (pointFrom step set count) ⌝ }
     ensures { λ s. ⌜ s ≡ sendingBy n r (crashes r (pointFrom step set count)) true ⌝ }
 {
     let coordinator = sets::only(r);
