@@ -8,7 +8,7 @@ use Rattle.general.specs.Indexed.{mapFrom}
 use Rattle.consensus.specs.Instance.{correct, crashes, CrashPoint, duringData, faultOf, proposalOf}
 use Rattle.consensus.specs.State.{undecided, decided, crashed, stateOf}
 use Rattle.consensus.specs.CrashCount.{isIdle, countsAsCrash, crashCount}
-use Rattle.consensus.specs.FourProcesses.{four, afterOneCommit, dataToTheLast, idleBesides, idleAlone}
+use Rattle.consensus.specs.FourProcesses.{four, firstCrashes, afterOneCommit, dataToTheLast, idleBesides, idleAlone}
 use Rattle.consensus.specs.ClaimCases.{case1Ends, case8Ends, Impostors, Passed, ClaimCases}
 use Rattle.consensus.specs.Consensus.{Agreement, Validity, Termination, DecidesBy, CrashesAsSaid, CrashesNoOther, CountsCrashes, NoLater, endsOf}
 
@@ -30,7 +30,7 @@ decided-up : (r v j : ℕ) → decided r v ≡ crashed j → ⊥
 decided-up r v j e = let z : _≡_ {A = ℕ} 0 1 = cc in omega arith
 
 impostors : Impostors
-unfolding Agreement Validity Termination DecidesBy CrashesAsSaid CrashesNoOther CountsCrashes NoLater endsOf isIdle countsAsCrash crashCount mapFrom faultOf proposalOf stateOf four afterOneCommit dataToTheLast idleAlone case1Ends case8Ends
+unfolding Agreement Validity Termination DecidesBy CrashesAsSaid CrashesNoOther CountsCrashes NoLater endsOf isIdle countsAsCrash crashCount mapFrom faultOf proposalOf stateOf four firstCrashes afterOneCommit dataToTheLast idleAlone case1Ends case8Ends
 impostors =
     record {
       twoValues = λ h.
@@ -50,7 +50,7 @@ impostors =
     }
 
 passed : Passed
-unfolding CountsCrashes NoLater endsOf isIdle countsAsCrash crashCount mapFrom stateOf four afterOneCommit idleBesides idleAlone case1Ends case8Ends
+unfolding CountsCrashes NoLater endsOf isIdle countsAsCrash crashCount mapFrom stateOf four firstCrashes afterOneCommit idleBesides idleAlone case1Ends case8Ends
 passed =
     record { oneCrash = refl; oneOfTwoLines = refl; noCrash = refl; sameRound = refl; itself = λ p r v d. (r, omega arith, d) }
 

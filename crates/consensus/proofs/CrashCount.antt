@@ -1,6 +1,6 @@
 -- f, the failure lines that are not idle: at most t where at most t are stated, and the number of the processes that end crashed wherever processes crash as
--- their lines say (document 01, 'A round': 'It goes dark undecided exactly when it has a failure line that is not idle'). Whatever the protocol. Assumes
--- nothing.
+-- their lines say (document 01, 'A round': 'It goes dark undecided exactly when it has a failure line that is not idle'). Whatever the protocol.
+-- Assumes nothing.
 use mathlib.Core.List.{List, [], _∷_}
 use mathlib.Core.Path.{_≡_, refl, ap₂}
 use mathlib.Core.Bool.{Bool, true, false, cond}

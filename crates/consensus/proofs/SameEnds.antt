@@ -25,7 +25,8 @@ module _ (x : Instance) (ends ends′ : ℕ → State) (same : SameEnds x ends e
   crashes-same p r c =
       record { process = c .process; point = c .point; line = c .line; notIdle = ap (isIdle r) (sym (same p (c .process))) ∙ c .notIdle }
 
-pub consensus-same : (x : Instance) (ends ends′ : ℕ → State) → SameEnds x ends ends′ → (latest : ℕ) → UniformConsensus latest x ends → UniformConsensus latest x ends′
+pub consensus-same : (x : Instance) (ends ends′ : ℕ → State) → SameEnds x ends ends′ → (latest : ℕ) → UniformConsensus latest x ends
+    → UniformConsensus latest x ends′
 unfolding SameEnds Agreement Validity Termination DecidesBy CrashesAsSaid CrashesNoOther
 consensus-same x ends ends′ same latest c =
     let decides-back = decides-same x ends′ ends (same-back x ends ends′ same) in
@@ -41,7 +42,8 @@ consensus-same x ends ends′ same latest c =
       crashesNoOther = λ p r process e. crashes-same x ends ends′ same p r (c .crashesNoOther p r process (same p process ∙ e));
     }
 
-pub no-later-same : (x y : Instance) (ends ends′ other other′ : ℕ → State) → SameEnds x ends ends′ → SameEnds y other other′ → NoLater x ends y other → NoLater x ends′ y other′
+pub no-later-same : (x y : Instance) (ends ends′ other other′ : ℕ → State) → SameEnds x ends ends′ → SameEnds y other other′ → NoLater x ends y other
+    → NoLater x ends′ y other′
 unfolding NoLater
 no-later-same x y ends ends′ other other′ same same′ h p r v d =
     let (s, sooner, e) = h p r v (decides-same x ends′ ends (same-back x ends ends′ same) p r v d) in

@@ -40,7 +40,7 @@ unfoldable pub Termination : Instance → (ℕ → State) → Type 0
 Termination x ends = (p : ℕ) → IsProcess x p → ((r : ℕ) → CrashesUndecided x ends p r → ⊥) → (r : ℕ) × (v : ℕ) × Decides x ends p r v
 
 -- Early decision: none decides after this round.
-unfoldable pub DecidesBy : ℕ → Instance → (ℕ → State) → Type 0
+unfoldable pub DecidesBy : (latest : ℕ) → Instance → (ℕ → State) → Type 0
 DecidesBy latest x ends = (p r v : ℕ) → Decides x ends p r v → r ≤ latest
 
 -- A process that crashes undecided ends crashed, in the round of its failure line, and no other process does.
@@ -64,7 +64,7 @@ unfoldable pub endsOf : Instance → (ℕ → State) → List State
 endsOf x ends = mapFrom (λ p fault. ends p) 1 (x .pattern)
 
 -- f counts the failure lines that are not idle (document 01, 'A round': 'f counts the lines that are not idle').
-unfoldable pub CountsCrashes : ℕ → Instance → (ℕ → State) → Type 0
+unfoldable pub CountsCrashes : (f : ℕ) → Instance → (ℕ → State) → Type 0
 CountsCrashes f x ends = f ≡ crashCount (x .pattern) (endsOf x ends)
 
 -- Demand 3, second half: every process that decides in the first decides in the second, on the same value, in the same round or an earlier one.

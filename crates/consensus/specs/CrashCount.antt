@@ -8,7 +8,7 @@ use Rattle.consensus.specs.Instance.{Fault, correct, crashes}
 use Rattle.consensus.specs.State.{State, undecided, decided, crashed}
 
 -- A failure line of this round is idle if its process decided in an earlier one.
-unfoldable pub isIdle : ℕ → State → Bool
+unfoldable pub isIdle : (round : ℕ) → State → Bool
 isIdle round (undecided v) = false
 isIdle round (decided r v) = ltb r round
 isIdle round (crashed r) = false

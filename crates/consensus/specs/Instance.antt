@@ -10,9 +10,9 @@ pub data CrashPoint : Type 0 where
   -- step 00: it crashes before it sends anything
   beforeSending : CrashPoint
   -- step 01: it crashes while sending data, which only the processes of this set receive
-  duringData : ℕ → CrashPoint
+  duringData : (reached : ℕ) → CrashPoint
   -- step 02: all its data messages and this many of its commit messages leave
-  duringCommits : ℕ → CrashPoint
+  duringCommits : (sent : ℕ) → CrashPoint
 
 -- The crash point that a step, a set and a count stand for.
 unfoldable pub pointFrom : (step reached count : ℕ) → CrashPoint
@@ -22,10 +22,10 @@ pointFrom step reached count = cond (eqb step 0) beforeSending (cond (eqb step 1
 -- if it is still up and undecided then.
 pub data Fault : Type 0 where
   correct : Fault
-  crashes : ℕ → CrashPoint → Fault
+  crashes : (round : ℕ) → CrashPoint → Fault
 
 -- 1 ≤ n ≤ 64 and t < n.
-unfoldable pub withinLimits : ℕ → ℕ → Bool
+unfoldable pub withinLimits : (n t : ℕ) → Bool
 withinLimits n t = leb 1 n && leb n 64 && ltb t n
 
 -- Process p (document 01: station, desk), from 1 to n, stands at place p - 1 of both lists.

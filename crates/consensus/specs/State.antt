@@ -8,9 +8,9 @@ use Rattle.consensus.specs.Instance.{Fault, correct, crashes}
 
 -- A process between two rounds: up and undecided with its estimate; decided in this round on this value; crashed in this round (document 01: dark).
 pub data State : Type 0 where
-  undecided : ℕ → State
-  decided : ℕ → ℕ → State
-  crashed : ℕ → State
+  undecided : (v : ℕ) → State
+  decided : (round v : ℕ) → State
+  crashed : (round : ℕ) → State
 
 -- The state of process p among those of all.
 unfoldable pub stateOf : List State → ℕ → State

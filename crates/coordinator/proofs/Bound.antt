@@ -1,5 +1,6 @@
--- The bound by speakers (specs/SpeakerBound). Two inductions on the rounds: one for the commits so far as seen from a process that still waits, none of which was for it or
--- for one below it; and one for all counts, in which the last speaker is such a process as its own round begins. For well-formed instances. Assumes nothing else.
+-- The bound by speakers (specs/SpeakerBound). Two inductions on the rounds: one for the commits so far as seen from a process that still waits, none of
+-- which was for it or for one below it; and one for all counts, in which the last speaker is such a process as its own round begins. For well-formed
+-- instances. Assumes nothing else.
 use mathlib.Core.Path.{_≡_, refl, subst, _∙_}
 use mathlib.Core.Bool.{Bool, true, false}
 use Prim.Native.Nat.{ℕ, zero, suc, _+_, _-_, _*_, _≤_, _<_}
@@ -19,14 +20,16 @@ use Rattle.coordinator.proofs.History.{undecided-earlier}
 use Rattle.coordinator.proofs.Termination.{waits-for-crashes}
 use Rattle.coordinator.proofs.Speakers.{Adds, silent-adds, speaker-adds, commits-of-speaker, speaks-at, speaker-crashes}
 
--- What some rounds, with f crashes in the run, have come to: speaker number j speaks in round j or later, and no commit goes to a process up to the last speaker.
+-- What some rounds, with f crashes in the run, have come to: speaker number j speaks in round j or later, and no commit goes to a process up to the last
+-- speaker.
 record Bounded (n f : ℕ) (run : Run) : Type 0 where
   speakers : run .speakers ≤ suc f
   estimates : 2 * run .dataSent + run .speakers * suc (run .speakers) ≤ 2 * (run .speakers * n)
   commits : run .commitsSent ≤ run .speakers * (n - run .speakers)
 
 -- Each speaker sends at most d commits.
-commits-grow : {s e a : ℕ} {run run′ : Run} (d : ℕ) → Adds run run′ s e a → run .commitsSent ≤ run .speakers * d → a ≤ s * d → run′ .commitsSent ≤ run′ .speakers * d
+commits-grow : {s e a : ℕ} {run run′ : Run} (d : ℕ) → Adds run run′ s e a → run .commitsSent ≤ run .speakers * d → a ≤ s * d
+    → run′ .commitsSent ≤ run′ .speakers * d
 commits-grow d adds h g = rw (adds .commitsSent, adds .speakers) (omega arith)
 
 -- A silent round changes nothing.

@@ -1,4 +1,5 @@
--- Demand 3, first half, about every well-formed instance: the coordinator protocol solves uniform consensus, and none decides after round f + 1. Assumes nothing else.
+-- Demand 3, first half, about every well-formed instance: the coordinator protocol solves uniform consensus, and none decides after round f + 1.
+-- Assumes nothing else.
 use Rattle.consensus.specs.Instance.{Instance}
 use Rattle.coordinator.specs.WellFormed.{WellFormed}
 use Rattle.consensus.specs.Consensus.{Agreement, UniformConsensus}

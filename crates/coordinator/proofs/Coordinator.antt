@@ -14,9 +14,11 @@ use Rattle.coordinator.specs.Round.{afterOutcome}
 use Rattle.coordinator.proofs.Pointwise.{stateAt}
 use Rattle.coordinator.proofs.Rounds.{Hears, hears-commit, received-commit, Becomes, staysDecided, staysCrashed, crashing, coordinates, listens}
 use Rattle.coordinator.proofs.Delivery.{reach-up, reach-upward}
-use Rattle.coordinator.proofs.History.{heardAt, hears-at, becomes-at, undecided-decided, undecided-crashed, decided-crashed, undecided-earlier, decided-later, crashed-later}
+use Rattle.coordinator.proofs.History.{heardAt, hears-at, becomes-at, undecided-decided, undecided-crashed}
+use Rattle.coordinator.proofs.History.{decided-crashed, undecided-earlier, decided-later, crashed-later}
 
--- A process that decides in round r on v is the coordinator of the round or above it, the coordinator began the round undecided with the estimate v, and its commits reach the process.
+-- A process that decides in round r on v is the coordinator of the round or above it, the coordinator began the round undecided with the estimate v, and
+-- its commits reach the process.
 pub record DecidesOn (n r : ℕ) (fault : Fault) (p : ℕ) (c : State) (i v : ℕ) : Type 0 where
   pub in-round : i ≡ r
   pub at-or-above : r ≤ p

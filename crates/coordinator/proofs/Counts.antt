@@ -1,5 +1,6 @@
--- Bounds of what a run counts, so that it fits the numbers and the bytes that hold it: the rounds and the speakers of r rounds are at most r,
--- round r sends at most n - r messages of each kind; and all counts of a run, f too (CrashCount), fit a result's last line. For well-formed instances where it says so. Assumes nothing else.
+-- Bounds of what a run counts, so that it fits the numbers and the bytes that hold it: the rounds and the speakers of r rounds are at most r, round r sends
+-- at most n - r messages of each kind; and all counts of a run, f too (CrashCount), fit a result's last line. For well-formed instances where it says so.
+-- Assumes nothing else.
 use mathlib.Core.List.{List, [], _∷_, map}
 use mathlib.Core.Logic.{_⊎_, inl, inr}
 use mathlib.Core.Path.{_≡_, refl, ap}

@@ -1,4 +1,5 @@
--- A round that begins with no process up and undecided changes nothing and counts nothing (document 01, 'A round': the run has ended), so it makes no difference whether it is run. Assumes nothing.
+-- A round that begins with no process up and undecided changes nothing and counts nothing (document 01, 'A round': the run has ended), so it makes no
+-- difference whether it is run. Assumes nothing.
 use mathlib.Core.List.{List, [], _∷_}
 use mathlib.Core.Path.{_≡_, refl, sym, ap, ap₂, _∙_}
 use mathlib.Core.Bool.{Bool, true, false, true≢false}
@@ -27,7 +28,8 @@ all-ended : (f : ℕ → State → State) → ((p : ℕ) (s : State) → isUndec
 unfolding mapFrom anyUndecided isUndecided
 all-ended f stays i [] h = refl
 all-ended f stays i (undecided v ∷ states) h = absurd (true≢false h)
-all-ended f stays i (decided round v ∷ states) h = ap₂ {C = List State} (λ s rest. s ∷ rest) (stays i (decided round v) refl) (all-ended f stays (suc i) states h)
+all-ended f stays i (decided round v ∷ states) h =
+    ap₂ {C = List State} (λ s rest. s ∷ rest) (stays i (decided round v) refl) (all-ended f stays (suc i) states h)
 all-ended f stays i (crashed round ∷ states) h = ap₂ {C = List State} (λ s rest. s ∷ rest) (stays i (crashed round) refl) (all-ended f stays (suc i) states h)
 
 states-ended : (x : Instance) (r : ℕ) (states : List State) → anyUndecided states ≡ false → statesAfter x r states ≡ states

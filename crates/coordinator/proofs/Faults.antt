@@ -28,7 +28,8 @@ outcome-up r j (continues v) e = undecided-crashed _ v j refl e
 outcome-up r j (decides v) e = decided-crashed _ r v j refl e
 
 -- A process that has crashed in round j has crashed before, or has a fault of that round.
-crashed-case : (r p : ℕ) (own : Fault) (j : ℕ) (m : Messages) (s s′ : State) → Becomes r p own m s s′ → (s ≡ crashed j → crashesIn j own ≡ true) → s′ ≡ crashed j
+crashed-case : (r p : ℕ) (own : Fault) (j : ℕ) (m : Messages) (s s′ : State) → Becomes r p own m s s′ → (s ≡ crashed j → crashesIn j own ≡ true)
+    → s′ ≡ crashed j
     → crashesIn j own ≡ true
 crashed-case r p own j m s s′ staysDecided before e = absurd (decided-crashed _ _ _ j refl e)
 crashed-case r p own j m s s′ staysCrashed before e = before e

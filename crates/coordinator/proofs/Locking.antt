@@ -10,7 +10,8 @@ use Rattle.consensus.specs.Instance.{Instance, Fault, faultOf}
 use Rattle.consensus.specs.State.{State, undecided, decided, crashed}
 use Rattle.coordinator.specs.Round.{afterOutcome}
 use Rattle.coordinator.proofs.Pointwise.{stateAt}
-use Rattle.coordinator.proofs.Rounds.{Hears, below, fromDecided, fromCrashed, unreached, dataAlone, dataAndCommit, Becomes, staysDecided, staysCrashed, crashing, coordinates, listens}
+use Rattle.coordinator.proofs.Rounds.{Hears, below, fromDecided, fromCrashed, unreached, dataAlone, dataAndCommit}
+use Rattle.coordinator.proofs.Rounds.{Becomes, staysDecided, staysCrashed, crashing, coordinates, listens}
 use Rattle.coordinator.proofs.Delivery.{NoCommit, AllData, no-commit-or-all-data}
 use Rattle.coordinator.proofs.History.{hears-at, becomes-at, undecided-decided, undecided-crashed, decided-crashed, crashed-later}
 use Rattle.coordinator.proofs.Values.{Holds, holds-decided, holds-after-round}
@@ -67,7 +68,8 @@ module _ (x : Instance) (r : ℕ) where
   open-or-locked-step (inr (v, h)) = inr (v, stays-locked v h)
   open-or-locked-step (inl fresh) = by-state (stateAt x r (suc r)) refl
     where
-      by-sending : (u : ℕ) → stateAt x r (suc r) ≡ undecided u → NoCommit (x .processes) (faultOf x (suc r)) (suc r) ⊎ AllData (x .processes) (faultOf x (suc r)) (suc r)
+      by-sending : (u : ℕ) → stateAt x r (suc r) ≡ undecided u
+          → NoCommit (x .processes) (faultOf x (suc r)) (suc r) ⊎ AllData (x .processes) (faultOf x (suc r)) (suc r)
           → NoneDecided x (suc r) ⊎ ((v : ℕ) × Locked x (suc r) v)
       by-sending u b (inl cut) = inl (none-decides fresh (λ _ _. cut))
       by-sending u b (inr sent) = inr (u, becomes-locked u fresh b sent)

@@ -1,5 +1,5 @@
--- Two runs side by side: what holds between the states of one process in a first and a second run, and what two paired failure lines
--- give in a round: how far the coordinator's messages get, and who crashes. Used by PairRound and Pair. Assumes nothing.
+-- Two runs side by side: what holds between the states of one process in a first and a second run, and what two paired failure lines give in a round: how
+-- far the coordinator's messages get, and who crashes. Used by PairRound and Pair. Assumes nothing.
 use mathlib.Core.Path.{_≡_, refl, sym, _∙_}
 use mathlib.Core.Bool.{Bool, true, false, cond}
 use Prim.Native.Nat.{ℕ, _≤_}

@@ -18,7 +18,8 @@ use Rattle.coordinator.specs.WellFormed.{FaultAllowed}
 use Rattle.coordinator.specs.Pairing.{LinePaired}
 use Rattle.coordinator.proofs.Rounds.{nothing-arrives, received-below}
 use Rattle.coordinator.proofs.Values.{Holds}
-use Rattle.coordinator.proofs.PairRelation.{Related, bothUndecided, decidedInSecond, bothDecided, bothCrashed, crashedInFirst, CrashRelated, crashAlike, crashInFirst, ReachRelated, reachAlike, commitToo, crash-related, reach-related}
+use Rattle.coordinator.proofs.PairRelation.{Related, bothUndecided, decidedInSecond, bothDecided, bothCrashed, crashedInFirst, CrashRelated}
+use Rattle.coordinator.proofs.PairRelation.{crashAlike, crashInFirst, ReachRelated, reachAlike, commitToo, crash-related, reach-related}
 
 -- What one process receives in the first run and in the second: the same, or the commit too in the second.
 data HeardRelated : Messages → Messages → Type 0 where
@@ -101,8 +102,8 @@ module _ (n r p : ℕ) where
   carried-related v fault bothCrashed holds = simp nothing-arrives carriesNothing
   carried-related v fault crashedInFirst holds = simp nothing-arrives carriesNothing
 
--- Round r + 1. Of the second run it is known that no undecided process stands above a coordinator that has decided,
--- and that the coordinator, if it has not crashed, holds what a process has decided.
+-- Round r + 1. Of the second run it is known that no undecided process stands above a coordinator that has decided, and that the coordinator, if it has not
+-- crashed, holds what a process has decided.
 pub round-related : (n n′ t r p : ℕ) {own own′ fault fault′ : Fault} {c c′ s s′ : State}
     → n ≡ n′ → FaultAllowed n t p own → LinePaired own own′ → LinePaired fault fault′ → Related r c c′ → Related r s s′
     → ((i v w : ℕ) → s′ ≡ undecided w → c′ ≡ decided i v → ¬ (suc r < p)) → ((i v : ℕ) → s′ ≡ decided i v → Holds (λ w. w ≡ v) c′)

@@ -30,7 +30,8 @@ module _ (r p : ℕ) (own : Fault) (m : Messages) where
   after-crashing v e = rw e
 
   -- A process that stays up does what `receives` says, of the coordinator or of any other.
-  pub after-up : (v : ℕ) (coordinates : Bool) → crashesIn r own ≡ false → eqb p r ≡ coordinates → after r p own m (undecided v) ≡ afterOutcome r (receives coordinates v m)
+  pub after-up : (v : ℕ) (coordinates : Bool) → crashesIn r own ≡ false → eqb p r ≡ coordinates
+      → after r p own m (undecided v) ≡ afterOutcome r (receives coordinates v m)
   unfolding after
   after-up v coordinates up e = rw (up, e)
 

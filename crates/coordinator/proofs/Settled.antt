@@ -1,4 +1,5 @@
--- The run's last round qualifies for the settling operation (document 01, 'The result', last paragraph): at its end all processes not crashed have decided, on one value.
+-- The run's last round qualifies for the settling operation (document 01, 'The result', last paragraph): at its end all processes not crashed have decided,
+-- on one value.
 -- For well-formed instances. Assumes nothing else.
 use mathlib.Core.List.{List, [], _∷_}
 use mathlib.Core.Path.{_≡_, refl, sym, ap, _∙_}
@@ -28,7 +29,8 @@ HoldsValue (decided round v) w = v ≡ w
 HoldsValue (crashed round) w = ⊥
 
 -- Where whoever holds a value holds v, all values held are v.
-all-held : (v : ℕ) (states : List State) → ((k w : ℕ) → k < length states → HoldsValue (getD states k (crashed 0)) w → v ≡ w) → allAre v (valuesHeld states) ≡ true
+all-held : (v : ℕ) (states : List State) → ((k w : ℕ) → k < length states → HoldsValue (getD states k (crashed 0)) w → v ≡ w)
+    → allAre v (valuesHeld states) ≡ true
 unfolding allAre valuesHeld
 all-held v [] h = refl
 all-held v (undecided u ∷ states) h = rw (eq-eqb v u (h 0 u (omega arith) refl)) (all-held v states (λ k w g e. h (suc k) w (omega arith) e))

@@ -1,5 +1,5 @@
--- Speakers, the coordinators that begin their own round up and undecided (document 01, 'A round'): what a round adds to the counts, and
--- that a process above a speaker that still waits after its round shows that the speaker crashed in it, before the commit to that process left. Assumes nothing.
+-- Speakers, the coordinators that begin their own round up and undecided (document 01, 'A round'): what a round adds to the counts, and that a process
+-- above a speaker that still waits after its round shows that the speaker crashed in it, before the commit to that process left. Assumes nothing.
 use mathlib.Core.Path.{_≡_, refl, ap}
 use mathlib.Core.Bool.{Bool, true, false, cond}
 use Prim.Native.Nat.{ℕ, suc, _+_, _-_, _≤_, _<_}
@@ -51,12 +51,14 @@ commits-above n p whole (duringCommits sent) h miss = omega (arith, ltb-false n 
     by-test false miss = refl
 
 -- A coordinator whose commit does not reach process p crashes in its round.
-sender-crashes : (n r p whole : ℕ) (fault : Fault) → p ≤ n → (reachIn n fault r p ≡ all → ⊥) → (point : CrashPoint) × (fault ≡ crashes r point) × (commitsAt whole point + p ≤ n)
+sender-crashes : (n r p whole : ℕ) (fault : Fault) → p ≤ n → (reachIn n fault r p ≡ all → ⊥)
+    → (point : CrashPoint) × (fault ≡ crashes r point) × (commitsAt whole point + p ≤ n)
 unfolding reachIn
 sender-crashes n r p whole correct h miss = absurd (miss refl)
 sender-crashes n r p whole (crashes round point) h miss = by-test (eqb round r) refl miss
   where
-    by-test : (b : Bool) → eqb round r ≡ b → (cond b (reachAt n point p) all ≡ all → ⊥) → (other : CrashPoint) × (crashes round point ≡ crashes r other) × (commitsAt whole other + p ≤ n)
+    by-test : (b : Bool) → eqb round r ≡ b → (cond b (reachAt n point p) all ≡ all → ⊥)
+        → (other : CrashPoint) × (crashes round point ≡ crashes r other) × (commitsAt whole other + p ≤ n)
     by-test true e miss = (point, ap (λ (q : ℕ). crashes q point) (eqb-true round r e), commits-above n p whole point h miss)
     by-test false e miss = absurd (miss refl)
 

@@ -1,5 +1,5 @@
--- Termination and early decision (document 001, section 3.3, Lemma 3). While a process waits, every coordinator so far has crashed:
--- so none waits for more than f + 1 rounds. For well-formed instances. Assumes nothing else.
+-- Termination and early decision (document 001, section 3.3, Lemma 3). While a process waits, every coordinator so far has crashed: so none waits for more
+-- than f + 1 rounds. For well-formed instances. Assumes nothing else.
 use mathlib.Core.Path.{_≡_, refl, _∙_}
 use Prim.Native.Nat.{ℕ, _≤_, _<_}
 use native.Mathlib.Omega.{arith}

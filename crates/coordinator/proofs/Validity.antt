@@ -1,4 +1,5 @@
--- Validity (document 001, section 3.3, Lemma 1): every value that a process holds, and so every value decided, is one that a process proposed. For well-formed instances. Assumes nothing else.
+-- Validity (document 001, section 3.3, Lemma 1): every value that a process holds, and so every value decided, is one that a process proposed. For
+-- well-formed instances. Assumes nothing else.
 use mathlib.Core.Path.{_≡_, refl}
 use Prim.Native.Nat.{ℕ, zero, suc, _≤_}
 use native.Mathlib.Omega.{arith}

@@ -1,4 +1,5 @@
--- The values that processes hold come from the coordinators: what is true of the coordinator's value and of a process's own is true of that process's value after the round. So every value fits four bytes, in well-formed instances. Assumes nothing else.
+-- The values that processes hold come from the coordinators: what is true of the coordinator's value and of a process's own is true of that process's value
+-- after the round. So every value fits four bytes, in well-formed instances. Assumes nothing else.
 use mathlib.Core.Path.{_≡_, subst}
 use Prim.Native.Nat.{ℕ, zero, suc, _^_, _<_}
 use Rattle.coordinator.specs.Message.{Messages, nothing, estimate, estimateAndCommit}

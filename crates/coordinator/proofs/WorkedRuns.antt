@@ -15,11 +15,10 @@ use Rattle.coordinator.specs.Count.{dataAt, commitsAt, countIn, speaks, 
 use Rattle.consensus.specs.CrashCount.{isIdle, countsAsCrash, crashCount}
 use Rattle.coordinator.specs.Run.{initial, withRound, runTo, runOf, crashesOf, latestOf}
 use Rattle.coordinator.specs.Settling.{valuesHeld, allAre, oneValue, qualifies}
-use Rattle.consensus.specs.FourProcesses.{four, afterOneCommit, dataToTheLast, idleBesides, idleAlone}
-use Rattle.coordinator.specs.WorkedTable.{case1, case2, case3, case4, case5, case6, case7, case8, case9}
-use Rattle.coordinator.specs.WorkedTable.{crashesLater, silentAtLast, noCommit, twoReached, workedRuns}
-use Rattle.coordinator.specs.WorkedRuns.{qualifyingTo, worked, AsWorked, WorkedRuns}
+use Rattle.consensus.specs.FourProcesses.{four, firstCrashes, afterOneCommit, dataToTheLast, idleBesides, idleAlone}
+use Rattle.coordinator.specs.WorkedTable.{workedRuns}
+use Rattle.coordinator.specs.WorkedRuns.{qualifyingTo, qualifyingRounds, worked, AsWorked, WorkedRuns}
 
 pub worked-runs : WorkedRuns
-unfolding four afterOneCommit dataToTheLast idleBesides idleAlone countFrom workedRuns AsWorked worked qualifyingTo case1 case2 case3 case4 case5 case6 case7 case8 case9 crashesLater silentAtLast noCommit twoReached onesIn member ones64 mapFrom arriving faultOf sends receives amongFirst reachAt reachIn reach stateOf crashesIn sentBy received afterOutcome after statesAfter isUndecided anyUndecided dataAt commitsAt countIn speaks dataIn commitsIn isIdle countsAsCrash crashCount initial withRound runTo runOf crashesOf valuesHeld allAre oneValue qualifies latestOf
+unfolding four firstCrashes afterOneCommit dataToTheLast idleBesides idleAlone countFrom workedRuns AsWorked worked qualifyingTo qualifyingRounds onesIn member ones64 mapFrom arriving faultOf sends receives amongFirst reachAt reachIn reach stateOf crashesIn sentBy received afterOutcome after statesAfter isUndecided anyUndecided dataAt commitsAt countIn speaks dataIn commitsIn isIdle countsAsCrash crashCount initial withRound runTo runOf crashesOf valuesHeld allAre oneValue qualifies latestOf
 worked-runs = record { number = refl; asWorked = (refl, (refl, (refl, (refl, (refl, (refl, (refl, (refl, (refl, (refl, (refl, (refl, (refl, tt))))))))))))) }

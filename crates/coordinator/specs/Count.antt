@@ -14,18 +14,18 @@ unfoldable pub speaks : ℕ → List State → Bool
 speaks r states = isUndecided (stateOf states r)
 
 -- Messages are counted as sent, whatever became of their addressees. Of a coordinator that crashes, by the point; `whole` is the count of one that sends all.
-unfoldable pub dataAt : ℕ → CrashPoint → ℕ
+unfoldable pub dataAt : (whole : ℕ) → CrashPoint → ℕ
 dataAt whole beforeSending = 0
 dataAt whole (duringData reached) = ones64 reached
 dataAt whole (duringCommits sent) = whole
 
-unfoldable pub commitsAt : ℕ → CrashPoint → ℕ
+unfoldable pub commitsAt : (whole : ℕ) → CrashPoint → ℕ
 commitsAt whole beforeSending = 0
 commitsAt whole (duringData reached) = 0
 commitsAt whole (duringCommits sent) = sent
 
 -- What a speaker with this fault sends in its round r, where `at` counts for a crash point.
-unfoldable pub countIn : (ℕ → CrashPoint → ℕ) → ℕ → ℕ → Fault → ℕ
+unfoldable pub countIn : (ℕ → CrashPoint → ℕ) → (whole r : ℕ) → Fault → ℕ
 countIn at whole r correct = whole
 countIn at whole r (crashes round point) = cond (eqb round r) (at whole point) whole
 

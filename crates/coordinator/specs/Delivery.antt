@@ -12,16 +12,16 @@ unfoldable pub amongFirst : (n sent p : ℕ) → Bool
 amongFirst n sent p = ltb n (p + sent)
 
 -- How far the messages to process p, of n, get when their sender crashes at this point.
-unfoldable pub reachAt : ℕ → CrashPoint → ℕ → Reach
+unfoldable pub reachAt : (n : ℕ) → CrashPoint → (p : ℕ) → Reach
 reachAt n beforeSending p = none
 reachAt n (duringData reached) p = cond (member p reached) dataOnly none
 reachAt n (duringCommits sent) p = cond (amongFirst n sent p) all dataOnly
 
 -- How far the messages of a process with this fault get in round r.
-unfoldable pub reachIn : ℕ → Fault → ℕ → ℕ → Reach
+unfoldable pub reachIn : (n : ℕ) → Fault → (r p : ℕ) → Reach
 reachIn n correct r p = all
 reachIn n (crashes round point) r p = cond (eqb round r) (reachAt n point p) all
 
 -- How far the messages of coordinator r get to process p in round r: it sends to the processes above it alone.
-unfoldable pub reach : ℕ → Fault → ℕ → ℕ → Reach
+unfoldable pub reach : (n : ℕ) → Fault → (r p : ℕ) → Reach
 reach n fault r p = cond (ltb r p) (reachIn n fault r p) none

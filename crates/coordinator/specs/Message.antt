@@ -6,8 +6,8 @@ use mathlib.Core.Bool.{Bool, true, false}
 -- What a process sends to another, or receives from it, in one round. (Document 01: what was heard.)
 pub data Messages : Type 0 where
   nothing : Messages
-  estimate : ℕ → Messages
-  estimateAndCommit : ℕ → Messages
+  estimate : (v : ℕ) → Messages
+  estimateAndCommit : (v : ℕ) → Messages
 
 -- How far the messages of a round get from one process to another: none of them, the data alone, or all that were sent.
 pub data Reach : Type 0 where

@@ -15,7 +15,7 @@ valuesHeld (decided round v ∷ states) = v ∷ valuesHeld states
 valuesHeld (crashed round ∷ states) = valuesHeld states
 
 -- Whether every value of a list is v.
-unfoldable pub allAre : ℕ → List ℕ → Bool
+unfoldable pub allAre : (v : ℕ) → List ℕ → Bool
 allAre v [] = true
 allAre v (w ∷ values) = eqb v w && allAre v values
 

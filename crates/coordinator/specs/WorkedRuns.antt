@@ -15,7 +15,11 @@ unfoldable pub qualifyingTo : Instance → ℕ → List ℕ
 qualifyingTo x zero = cond (qualifies x zero) (zero ∷ []) []
 qualifyingTo x (suc r) = qualifyingTo x r ++ cond (qualifies x (suc r)) (suc r ∷ []) []
 
--- What the definitions give for an instance. Rounds 0 and t + 2, which no run has, are looked at too.
+-- The rounds that qualify in the instance's run. Rounds 0 and t + 2, which no run has, are looked at too.
+unfoldable pub qualifyingRounds : Instance → List ℕ
+qualifyingRounds x = qualifyingTo x (suc (lastRound x))
+
+-- What the definitions give for an instance.
 unfoldable pub worked : Instance → WorkedRun
 worked x =
     record {
@@ -23,7 +27,7 @@ worked x =
       ends = runOf x .states;
       counts = runOf x .rounds ∷ crashesOf x ∷ runOf x .speakers ∷ runOf x .dataSent ∷ runOf x .commitsSent ∷ [];
       limits = latestOf x ∷ boundBySpeakers (x .processes) (runOf x .speakers) ∷ [];
-      settling = qualifyingTo x (suc (lastRound x));
+      settling = qualifyingRounds x;
     }
 
 -- Each run of a list is what the definitions give for its instance.

@@ -11,24 +11,24 @@ use Rattle.tables.specs.InstanceOfTable.{faultFrom}
 use Rattle.tables.specs.RunOfTable.{stateByEnd}
 
 -- 1 for a failure line that is not idle.
-module _ (round step set count end ended value : ℕ) where
-  pub no-line : round ≡ 0 → 0 ≡ countsAsCrash (faultFrom round step set count) (stateByEnd end ended value)
+module _ (round end ended : ℕ) where
+  pub no-line : round ≡ 0 → 0 ≡ countsAsCrash (faultFrom round 0 0 0) (stateByEnd end ended 0)
   unfolding countsAsCrash faultFrom
   no-line h = rw h
 
-  pub idle-line : (round ≡ 0 → ⊥) → end ≡ 1 → ended < round → 0 ≡ countsAsCrash (faultFrom round step set count) (stateByEnd end ended value)
+  pub idle-line : (round ≡ 0 → ⊥) → end ≡ 1 → ended < round → 0 ≡ countsAsCrash (faultFrom round 0 0 0) (stateByEnd end ended 0)
   unfolding countsAsCrash faultFrom isIdle stateByEnd
   idle-line g h l = rw h (simp (ne-eqb, lt-ltb))
 
-  pub line-of-decided : (round ≡ 0 → ⊥) → end ≡ 1 → round ≤ ended → 1 ≡ countsAsCrash (faultFrom round step set count) (stateByEnd end ended value)
+  pub line-of-decided : (round ≡ 0 → ⊥) → end ≡ 1 → round ≤ ended → 1 ≡ countsAsCrash (faultFrom round 0 0 0) (stateByEnd end ended 0)
   unfolding countsAsCrash faultFrom isIdle stateByEnd
   line-of-decided g h l = rw h (simp (ne-eqb, le-ltb))
 
-  pub line-of-other : (round ≡ 0 → ⊥) → (end ≡ 1 → ⊥) → 1 ≡ countsAsCrash (faultFrom round step set count) (stateByEnd end ended value)
+  pub line-of-other : (round ≡ 0 → ⊥) → (end ≡ 1 → ⊥) → 1 ≡ countsAsCrash (faultFrom round 0 0 0) (stateByEnd end ended 0)
   unfolding countsAsCrash faultFrom isIdle stateByEnd
   line-of-other g h = simp ne-eqb (by-end (eqb end 0))
     where
-      by-end : (b : Bool) → _≡_ {A = ℕ} 1 (cond (isIdle round (cond b (undecided value) (crashed ended))) 0 1)
+      by-end : (b : Bool) → _≡_ {A = ℕ} 1 (cond (isIdle round (cond b (undecided 0) (crashed ended))) 0 1)
       by-end true = refl
       by-end false = refl
 

@@ -12,7 +12,7 @@ use Rattle.coordinator.specs.Message.{Reach, none, all, getsData, getsCommit}
 use Rattle.consensus.specs.Instance.{Fault, crashes, CrashPoint, beforeSending, duringData, duringCommits, pointFrom}
 use Rattle.coordinator.specs.Delivery.{amongFirst, reachAt, reachIn, reach}
 use Rattle.consensus.specs.WellFormed.{FaultAllowedBy}
-use Rattle.coordinator.specs.WellFormed.{PointAllowed, FaultAllowed}
+use Rattle.coordinator.specs.WellFormed.{PointAllowed}
 use Rattle.coordinator.proofs.CountsReached.{data-or-none, all-get-data, no-commit, commit-or-data, among-above}
 use Rattle.tables.specs.InstanceOfTable.{faultFrom}
 use Rattle.coordinator_sending.specs.declared.Sent.{Sent}
@@ -100,19 +100,19 @@ module _ (n r step set count : ℕ) where
       to-all n r fault getsData refl (λ p. ap getsData (by-point (duringCommits count) point p) ∙ all-get-data (amongFirst n count p))
 
   -- A set and a count within their limits.
-  module _ (t : ℕ) (allowed : FaultAllowed n t r fault) where
+  module _ (allowed : PointAllowed n r r (pointFrom step set count)) where
     pub some-data : step ≡ 1 → DataTo set
-    unfolding getsData reachAt PointAllowed FaultAllowedBy
+    unfolding getsData reachAt PointAllowed
     some-data s =
         let point = at-step-1 step set count s in
-        let limits : (r ≡ r) × (set % 2 ^ r ≡ 0) × (set < 2 ^ n) = rw point at (allowed .2) in
+        let limits : (r ≡ r) × (set % 2 ^ r ≡ 0) × (set < 2 ^ n) = rw point at allowed in
         is-set n set (λ p. member p set) (limits .2) (λ p _ _. refl)
         ∙ set-above n r fault getsData refl (λ p. member p set)
         (λ p _. ap getsData (by-point (duringData set) point p) ∙ data-or-none (member p set)) (λ p h g. member-above r set (limits .1) p h g)
 
     pub count-allowed : (step ≡ 0 → ⊥) → (step ≡ 1 → ⊥) → r + count ≤ n
-    unfolding PointAllowed FaultAllowedBy
-    count-allowed h g = (rw (at-step-2 step set count h g) at (allowed .2)) .1
+    unfolding PointAllowed
+    count-allowed h g = (rw (at-step-2 step set count h g) at allowed) .1
 
     pub some-commits : (step ≡ 0 → ⊥) → (step ≡ 1 → ⊥) → CommitsTo (setOf n (λ p. ltb (n - count) p))
     unfolding getsCommit reachAt
@@ -128,8 +128,10 @@ module _ (n r round step set count : ℕ) (first : 1 ≤ r) (now : round ≡ r) 
   its-fault : faultFrom round step set count ≡ crashes r (pointFrom step set count)
   its-fault = crash-of-round r round step set count first now
 
-  pub interrupted-allowed : SendingAllowed n r (faultFrom round step set count) → SendingAllowed n r (crashes r (pointFrom step set count))
-  interrupted-allowed allowed = rw its-fault at allowed
+  pub interrupted-allowed : SendingAllowed n r (faultFrom round step set count)
+      → (1 ≤ r) × (r ≤ n) × (n ≤ 64) × PointAllowed n r r (pointFrom step set count)
+  unfolding FaultAllowedBy
+  interrupted-allowed allowed = (allowed .first, allowed .last, allowed .at-most-64, (rw its-fault at (allowed .allowed)) .2)
 
   pub interrupted-sent : (speaks : Bool) → speaks ≡ true → (s : Sent) → s ≡ sendingBy n r (crashes r (pointFrom step set count)) true
       → s ≡ sendingBy n r (faultFrom round step set count) speaks

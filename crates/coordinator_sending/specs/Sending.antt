@@ -1,4 +1,4 @@
--- The messages of a round as sets of processes (document 01, 'A round'; 'The forms we use': sets as masks of a u64).
+-- For the code alone: the messages of a round as sets of processes (document 01, 'A round'; 'The forms we use': sets as masks of a u64).
 use Prim.Native.Nat.{ℕ, _≤_}
 use mathlib.Core.Bool.{Bool, cond}
 use lib.Dec.{eqb}

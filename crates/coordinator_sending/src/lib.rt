@@ -1,17 +1,14 @@
 // The messages of a round as sets of processes, and what is counted of it (document 01, 'A round'). Numbers and masks alone: no table.
 ghost use mathlib.Core.Path.{_≡_};
 ghost use mathlib.Core.Bool.{true};
+ghost use Prim.Native.Nat.{_≤_};
 ghost use Rattle.general.specs.Bits.{member};
 ghost use Rattle.consensus.specs.Instance.{crashes, pointFrom};
+ghost use Rattle.coordinator.specs.WellFormed.{PointAllowed};
 ghost use Rattle.tables.specs.InstanceOfTable.{faultFrom};
 ghost use Rattle.coordinator_sending.specs.Sending.{sendingBy, SendingAllowed};
 
 pub mod count;
-
-// The steps of a failure line (document 01, 'The ticket'): before sending anything, and while sending data.
-const BEFORE_SENDING: u8 = 0;
-
-const DURING_DATA: u8 = 1;
 
 // Whom the messages of a round reach: the coordinator itself, which decides its own value, those that its data get to and those that its commits get to.
 pub struct Sent {
@@ -23,18 +20,18 @@ pub struct Sent {
 // What coordinator r, which speaks, sends in the round in which it crashes. Commits go to n, n - 1 and so on downward, so the first `count` of them go to
 // the processes above n - count.
 fn interrupted(n: u8, r: u8, step: u8, set: u64, count: u8) -> Sent
-    requires { ⌜ SendingAllowed n r (crashes r (pointFrom step set count)) ⌝ }
+    requires { ⌜ (1 ≤ r) × (r ≤ n) × (n ≤ 64) × PointAllowed n r r (pointFrom step set count) ⌝ }
     ensures { λ s. ⌜ s ≡ sendingBy n r (crashes r (pointFrom step set count)) true ⌝ }
 {
     let coordinator = sets::only(r);
-    if step == BEFORE_SENDING {
+    if step == consensus::BEFORE_SENDING {
         return Sent {
             coordinator,
             reached: 0,
             committed: 0,
         };
     }
-    if step == DURING_DATA {
+    if step == consensus::DURING_DATA {
         return Sent {
             coordinator,
             reached: set,

@@ -29,7 +29,8 @@ pub run-case : (text : List ℕ) (room : ℕ) → RunCase text room (running tex
 unfolding running resultIn
 run-case text room = by-reading (readTicket text) refl
   where
-    by-room : (x : Instance) → readTicket text ≡ accepted x → (b : Bool) → ltb room (resultSize (x .processes)) ≡ b → RunCase text room (resultIn room (accepted x))
+    by-room : (x : Instance) → readTicket text ≡ accepted x → (b : Bool) → ltb room (resultSize (x .processes)) ≡ b
+        → RunCase text room (resultIn room (accepted x))
     by-room x e true h = rw h (short x e (ltb-true _ _ h))
     by-room x e false h = rw h (fits x e (ltb-false _ _ h))
 
@@ -53,10 +54,12 @@ module _ (text before after : List ℕ) (code : ℕ) (call : RunCall text before
       let size = length-text x (accepted-well-formed text x read) in
       let coded : code ≡ resultSize (x .processes) = (rw e at (call .answered)) ∙ size in
       result x read room coded (omega (arith, result-small text x read)) (rw (e, size) at (call .buffer))
-  by-case (refused number line) e (short x read room) = refusal 9 0 (tooShort x read room) (rw e at (call .answered)) (rw (call .answered, e) (omega arith)) (rw e at (call .buffer))
+  by-case (refused number line) e (short x read room) =
+      refusal 9 0 (tooShort x read room) (rw e at (call .answered)) (rw (call .answered, e) (omega arith)) (rw e at (call .buffer))
   by-case (refused number line) e (unread _ _ read) =
       let some = unread-numbered text number line read in
-      refusal number line (wrong (refused-wrong text number line read)) (rw e at (call .answered)) (rw (call .answered, e) (omega arith)) (rw e at (call .buffer))
+      refusal number line (wrong (refused-wrong text number line read))
+      (rw e at (call .answered)) (rw (call .answered, e) (omega arith)) (rw e at (call .buffer))
 
   pub run-answered : RunAnswered text before after code
   run-answered = by-case (running text (length before)) refl (run-case text (length before))

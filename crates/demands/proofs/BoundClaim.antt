@@ -7,7 +7,7 @@ use Rattle.consensus.specs.Instance.{Instance}
 use Rattle.coordinator.proofs.Bound.{speaker-bound}
 use Rattle.coordinator.proofs.CountsReached.{counts-reached}
 use Rattle.formats.proofs.WellFormed.{accepted-well-formed}
-use Rattle.demands.specs.Said.{Counts, countsSaid, countsOf}
+use Rattle.demands.specs.OutputSays.{Counts, countsSaid, countsOf}
 use Rattle.demands.specs.Written.{Wrote}
 use Rattle.demands.specs.BoundClaim.{CountsBounded, BoundClaim}
 use Rattle.demands.proofs.Demand2.{demand-2}

@@ -18,7 +18,7 @@ use Rattle.formats.specs.ResultLine.{refusalLine}
 use Rattle.formats.specs.Running.{resultIn, running, written, programWrites}
 use Rattle.formats.proofs.LineReadBack.{line-read-back}
 use Rattle.formats.proofs.RefusalRange.{RefusedBy, lastRefused, ticket-refused}
-use Rattle.demands.specs.Said.{lineAt, refusalFrom, refusalSaid}
+use Rattle.demands.specs.OutputSays.{lineAt, refusalFrom, refusalSaid}
 use Rattle.formats.specs.Reading.{Reading, refused}
 use Rattle.formats.specs.Code.{refusalsFrom, SettlesAs}
 use Rattle.formats.proofs.Passing.{refused-accepted}
@@ -62,7 +62,8 @@ refusal-read-back number line small short =
     ∙ ap (λ (lines : List Line). refusalFrom (getD lines 0 noLine)) read
     ∙ ap (λ (k : ℕ). some (record { refusal = number; line = k })) (number-bytes 2 line short)
 
-program-says : (text : List ℕ) (number line : ℕ) → FirstWrong text number line → refusalSaid (programWrites text) ≡ some (record { refusal = number; line = line })
+program-says : (text : List ℕ) (number line : ℕ) → FirstWrong text number line
+    → refusalSaid (programWrites text) ≡ some (record { refusal = number; line = line })
 unfolding RefusedBy
 program-says text number line w =
     let range : RefusedBy lastRefused (readTicket text) = ticket-refused text in
@@ -75,7 +76,8 @@ tickets-answered =
       run = run-answered;
       settle = settle-answered;
       program = λ text number line w. (program-refuses text number line w, program-says text number line w);
-      onlyOne = λ text number line number′ line′ w w′. same-refusal number line number′ line′ (sym (wrong-refused text number line w) ∙ wrong-refused text number′ line′ w′);
+      onlyOne = λ text number line number′ line′ w w′.
+          same-refusal number line number′ line′ (sym (wrong-refused text number line w) ∙ wrong-refused text number′ line′ w′);
       notBoth = λ text x number line read w. refused-accepted number line x (sym (wrong-refused text number line w) ∙ read);
     }
 

@@ -13,7 +13,7 @@ use Rattle.coordinator.proofs.Pair.{no-later}
 use Rattle.consensus.proofs.SameEnds.{SameEnds, consensus-same, no-later-same}
 use Rattle.coordinator.proofs.Ends.{ends-in-order}
 use Rattle.formats.proofs.WellFormed.{accepted-well-formed}
-use Rattle.demands.specs.Said.{Counts, Says, countsOf}
+use Rattle.demands.specs.OutputSays.{Counts, OutputSays, countsOf}
 use Rattle.demands.specs.Written.{Wrote}
 use Rattle.demands.specs.Demand3.{RoundsClaim, InstancesClaim, OutputClaim, Demand3}
 use Rattle.demands.proofs.PairedTexts.{texts-paired}
@@ -28,11 +28,13 @@ rounds-claim =
       crashed = λ text x read.
           let formed = accepted-well-formed text x read in
           crashes-are-crashed x formed ∙ ap crashedCount (sym (ends-in-order x formed (endOf x) (λ p process. refl)));
-      noLater = λ a b x y read read′ paired. no-later x y (accepted-well-formed a x read) (accepted-well-formed b y read′) (texts-paired a b x y read read′ paired);
+      noLater = λ a b x y read read′ paired.
+          no-later x y (accepted-well-formed a x read) (accepted-well-formed b y read′) (texts-paired a b x y read read′ paired);
     }
 
 -- The bytes of a result say one thing: what the rounds give.
-module _ (text : List ℕ) (x : Instance) (out : List ℕ) (ends : ℕ → State) (counts : Counts) (wrote : Wrote text x out) (says : Says x out ends counts) where
+module _ (text : List ℕ) (x : Instance) (out : List ℕ) (ends : ℕ → State) (counts : Counts)
+    (wrote : Wrote text x out) (says : OutputSays x out ends counts) where
   ends-said : SameEnds x (endOf x) ends
   unfolding SameEnds
   ends-said p process =
@@ -68,7 +70,7 @@ output-claim =
 
 instances-claim : InstancesClaim
 unfolding InstancesClaim
-instances-claim a b x y read read′ paired = no-later x y (accepted-well-formed a x read) (accepted-well-formed b y read′) paired
+instances-claim a b x y pair = no-later x y (accepted-well-formed _ x (pair .first)) (accepted-well-formed _ y (pair .second)) (pair .paired)
 
 pub demand-3 : Demand3
 demand-3 = record { rounds = rounds-claim; instances = instances-claim; outputs = output-claim }

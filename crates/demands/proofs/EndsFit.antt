@@ -15,7 +15,7 @@ use Rattle.coordinator.proofs.Ends.{states-at-end}
 use Rattle.coordinator.proofs.Consensus.{uniform-consensus}
 use Rattle.coordinator.proofs.Settled.{none-ends-undecided}
 use Rattle.formats.specs.ResultLine.{resultText}
-use Rattle.demands.specs.Said.{Says, countsOf}
+use Rattle.demands.specs.OutputSays.{OutputSays, countsOf}
 use Rattle.demands.proofs.ResultReadBack.{Fits, RunFits, end-said, counts-said}
 
 module _ (x : Instance) (formed : WellFormed x) where
@@ -65,7 +65,7 @@ module _ (x : Instance) (formed : WellFormed x) where
       }
 
   -- So an output that begins with the result says how every process ended, and what was counted.
-  pub result-says : (rest : List ℕ) → Says x (resultText x ++ rest) (endOf x) (countsOf x)
+  pub result-says : (rest : List ℕ) → OutputSays x (resultText x ++ rest) (endOf x) (countsOf x)
   unfolding endOf resultText countsOf
   result-says rest =
       record {

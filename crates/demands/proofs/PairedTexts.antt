@@ -30,7 +30,8 @@ use Rattle.demands.proofs.PairedFaults.{PairedSoFar, so-far-paired, so-
 data Alongside : Stage → Stage → Type 0 where
   bothHeader : Alongside header header
   bothProposals : {count : ℕ} {x : Instance} → x .pattern ≡ replicate (x .processes) correct → Alongside (body (Proposals count) x) (body (Proposals count) x)
-  bothFailures : {x y : Instance} {lines lines′ last last′ : ℕ} → PairedSoFar x y last → Alongside (body (Failures lines last) x) (body (Failures lines′ last′) y)
+  bothFailures : {x y : Instance} {lines lines′ last last′ : ℕ} → PairedSoFar x y last
+      → Alongside (body (Failures lines last) x) (body (Failures lines′ last′) y)
   bothEnded : {x y : Instance} → Paired x y → Alongside (body Ended x) (body Ended y)
 
 -- After the proposals every process is correct in both.
@@ -73,11 +74,13 @@ module _ {x y : Instance} {last : ℕ} (so-far : PairedSoFar x y last) where
   placed-here {b = b} passes = crash-placed (x .processes) (x .resilience) last (failureLine b) (passes .placed)
 
   -- A line among the failure lines: the same in both, one with more commits in the second, or one that is missing there.
-  same-failure : {lines lines′ last′ : ℕ} {b : List ℕ} {u u′ : Stage} → Taken x b (Failures lines last) u → Taken y b (Failures lines′ last′) u′ → Alongside u u′
+  same-failure : {lines lines′ last′ : ℕ} {b : List ℕ} {u u′ : Stage} → Taken x b (Failures lines last) u → Taken y b (Failures lines′ last′) u′
+      → Alongside u u′
   same-failure (takenEnd kind) (takenEnd kind′) = bothEnded (so-far-paired x y last so-far)
   same-failure {b = b} (takenEnd kind) (takenCrash passes) = absurd (kinds-apart b kind (passes .kind))
   same-failure {b = b} (takenCrash passes) (takenEnd kind) = absurd (kinds-apart b kind (passes .kind))
-  same-failure {b = b} (takenCrash passes) (takenCrash passes′) = bothFailures (so-far-both x y last so-far (failureLine b) (placed-here passes) (failureLine b) refl same)
+  same-failure {b = b} (takenCrash passes) (takenCrash passes′) =
+      bothFailures (so-far-both x y last so-far (failureLine b) (placed-here passes) (failureLine b) refl same)
 
   more-commits : {lines lines′ last′ : ℕ} {b c : List ℕ} {u u′ : Stage} → CommitLine b → CommitLine c → getD b 1 0 ≡ getD c 1 0 → getD b 12 0 ≤ getD c 12 0
       → Taken x b (Failures lines last) u → Taken y c (Failures lines′ last′) u′ → Alongside u u′
@@ -89,7 +92,8 @@ module _ {x y : Instance} {last : ℕ} (so-far : PairedSoFar x y last) where
       let fault′ = stated-fault (y .processes) (y .resilience) lines′ last′ c line′ passes′ in
       bothFailures (so-far-both x y last so-far (failureLine b) (placed-here passes) (failureLine c) station (rw (fault, fault′, station) (moreCommits count)))
 
-  missing-commits : {lines lines′ last′ : ℕ} {b : List ℕ} {u : Stage} → CommitLine b → Taken x b (Failures lines last) u → Alongside u (body (Failures lines′ last′) y)
+  missing-commits : {lines lines′ last′ : ℕ} {b : List ℕ} {u : Stage} → CommitLine b → Taken x b (Failures lines last) u
+      → Alongside u (body (Failures lines′ last′) y)
   missing-commits {b = b} line (takenEnd kind) = absurd (not-the-end b line kind)
   missing-commits {lines} {b = b} line (takenCrash passes) =
       bothFailures

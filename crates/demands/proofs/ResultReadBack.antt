@@ -17,7 +17,7 @@ use Rattle.coordinator.specs.Run.{Run}
 use Rattle.formats.specs.Line.{Line, bytes, noLine, linesOf}
 use Rattle.formats.specs.Says.{isKind}
 use Rattle.formats.specs.ResultLine.{endBytes, processLine, lastLine, joined, resultLines}
-use Rattle.demands.specs.Said.{isProcessLine, endIn, endFrom, countsIn, countsFrom, lineAt, endSaid, countsSaid}
+use Rattle.demands.specs.OutputSays.{isProcessLine, endIn, endFrom, countsIn, countsFrom, lineAt, endSaid, countsSaid}
 use Rattle.formats.proofs.LineReadBack.{line-read-back}
 
 -- A process that ended so can be read back: it has decided or crashed, in a round of one byte, on a value of four.
@@ -112,7 +112,8 @@ module _ (run : Run) (f n : ℕ) (fits : RunFits run f n) where
       ∙ end-read-back p _ (fits .states (p - 1) (omega arith))
 
   -- The counts, by the result.
-  counts-read-back : countsIn lastBytes ≡ some (record { rounds = run .rounds; crashes = f; speakers = run .speakers; dataSent = run .dataSent; commitsSent = run .commitsSent })
+  counts-read-back : countsIn lastBytes
+      ≡ some (record { rounds = run .rounds; crashes = f; speakers = run .speakers; dataSent = run .dataSent; commitsSent = run .commitsSent })
   unfolding countsIn isKind bytesOf
   counts-read-back = rw (number-bytes 2 (run .dataSent) (fits .dataSent), number-bytes 2 (run .commitsSent) (fits .commitsSent))
 

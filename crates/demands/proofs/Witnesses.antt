@@ -1,15 +1,18 @@
 -- The premises of the claims are met by case 1: computed from its text and those that it is paired with. Assumes nothing.
 use mathlib.Core.List.{List, [], _∷_}
-use mathlib.Core.Path.{refl}
-use Prim.Native.Nat.{ℕ}
+use mathlib.Core.Path.{_≡_, refl}
+use Prim.Native.Nat.{ℕ, zero, suc, _-_}
 use native.Mathlib.Omega.{arith}
 use lib.Count.{onesIn}
-use lib.ListN.{replicate}
+use lib.ListN.{replicate, getD}
 use Rattle.general.specs.Bits.{member, ones64}
 use Rattle.general.specs.BigEndian.{number, numberFrom, bytesOf}
 use Rattle.general.specs.Indexed.{mapFrom}
 use Rattle.general.specs.Text.{ascii}
 use Rattle.consensus.specs.Instance.{Instance, Fault, correct, crashes, duringCommits, pointFrom, faultOf, withinLimits}
+use Rattle.consensus.specs.Consensus.{Decides}
+use Rattle.consensus.specs.FourProcesses.{four}
+use Rattle.coordinator.specs.Pairing.{LinePaired, same, moreCommits, missing, Paired}
 use Rattle.coordinator.specs.Message.{arriving}
 use Rattle.coordinator.specs.Transition.{sends, receives}
 use Rattle.coordinator.specs.Delivery.{amongFirst, reachAt, reachIn, reach}
@@ -24,21 +27,29 @@ use Rattle.formats.specs.Line.{scan, closed, unclosed, linesFrom, linesOf}
 use Rattle.formats.specs.FailureLine.{placesCrash, allBetween, suitsStep}
 use Rattle.formats.specs.Says.{isKind, headerSays, afterProposal, proposalSays, failureLine, crashSays, failureSays, lineSays}
 use Rattle.formats.specs.Accept.{unproposed, withProposal, withCrash, begin, store, accept}
-use Rattle.formats.specs.Reading.{proceed, readFrom}
+use Rattle.formats.specs.Reading.{accepted, proceed, readFrom}
 use Rattle.formats.specs.Ticket.{atEnd, readTicket}
 use Rattle.formats.specs.HexText.{digitOf, hexDigits, hexLine}
 use Rattle.formats.specs.ResultLine.{endBytes, processLine, lastLine, joined, resultLines, resultText, resultSize}
 use Rattle.formats.specs.Running.{resultIn, running, bufferAfter}
 use Rattle.formats.specs.Code.{runCode}
-use Rattle.formats.specs.Table.{textOf, opening, case1, case3}
+use Rattle.formats.specs.Table.{textOf, opening}
 use Rattle.running.specs.Answer.{answerOf}
 use Rattle.demands.specs.PairedTexts.{CommitLine, PairedTexts, noLines, sameLine, countNoLower, missingLine}
 use Rattle.demands.specs.Witnesses.{crashText, moreCommitsText, noCrashText, PairMet, RunMet, Witnesses}
 
 -- Case 1's instance, but for process 1's fault.
 abbrev instanceWith : Fault → Instance
-instanceWith fault =
-    record { processes = 4; resilience = 2; proposals = 10 ∷ 20 ∷ 30 ∷ 40 ∷ []; pattern = fault ∷ correct ∷ correct ∷ correct ∷ [] }
+instanceWith fault = four (fault ∷ correct ∷ correct ∷ correct ∷ [])
+
+-- Two such instances are paired if the two faults are.
+paired-with : (fault fault′ : Fault) → LinePaired fault fault′ → Paired (instanceWith fault) (instanceWith fault′)
+unfolding four faultOf
+paired-with fault fault′ line = record { processes = refl; resilience = refl; proposals = refl; lines = λ p process. at-place (p - 1) }
+  where
+    at-place : (i : ℕ) → LinePaired (getD (fault ∷ correct ∷ correct ∷ correct ∷ []) i correct) (getD (fault′ ∷ correct ∷ correct ∷ correct ∷ []) i correct)
+    at-place zero = line
+    at-place (suc i) = same
 
 -- The bytes of its failure line, with this count.
 abbrev commitLine : ℕ → List ℕ
@@ -48,43 +59,60 @@ is-commit-line : (count : ℕ) → CommitLine (commitLine count)
 is-commit-line count = omega arith
 
 paired-commits : PairedTexts crashText moreCommitsText
-unfolding PairedTexts crashText moreCommitsText noCrashText opening case1 case3 textOf ascii digitValue isDigit scan closed unclosed linesFrom linesOf
+unfolding PairedTexts crashText moreCommitsText noCrashText opening textOf ascii digitValue isDigit scan closed unclosed linesFrom linesOf
 paired-commits =
     sameLine (sameLine (sameLine (sameLine (sameLine (countNoLower (is-commit-line 1) (is-commit-line 3) refl (omega arith) (sameLine noLines))))))
 
 paired-missing : PairedTexts crashText noCrashText
-unfolding PairedTexts crashText moreCommitsText noCrashText opening case1 case3 textOf ascii digitValue isDigit scan closed unclosed linesFrom linesOf
+unfolding PairedTexts crashText moreCommitsText noCrashText opening textOf ascii digitValue isDigit scan closed unclosed linesFrom linesOf
 paired-missing = sameLine (sameLine (sameLine (sameLine (sameLine (missingLine (is-commit-line 1) (sameLine noLines))))))
 
+-- Case 1, case 3 and case 1 without its failure line.
+abbrev crash : Instance
+crash = instanceWith (crashes 1 (duringCommits 1))
+
+abbrev allCommits : Instance
+allCommits = instanceWith (crashes 1 (duringCommits 3))
+
+abbrev noCrash : Instance
+noCrash = instanceWith correct
+
+-- The three texts describe them.
+texts-read : (readTicket crashText ≡ accepted crash) × (readTicket moreCommitsText ≡ accepted allCommits) × (readTicket noCrashText ≡ accepted noCrash)
+unfolding four crashText moreCommitsText noCrashText opening textOf ascii number numberFrom pointFrom withinLimits digitValue isDigit scan closed unclosed linesFrom linesOf proceed readFrom isKind headerSays afterProposal proposalSays failureLine placesCrash allBetween suitsStep crashSays failureSays lineSays unproposed withProposal withCrash begin store accept atEnd readTicket
+texts-read = (refl, refl, refl)
+
+-- In each of them process 2 decides 10, in the first a round later than in the others.
+second-decides : Decides crash (endOf crash) 2 2 10 × Decides allCommits (endOf allCommits) 2 1 10 × Decides noCrash (endOf noCrash) 2 1 10
+unfolding four endOf onesIn member ones64 mapFrom faultOf arriving sends receives amongFirst reachAt reachIn reach stateOf crashesIn sentBy received afterOutcome after statesAfter isUndecided anyUndecided dataAt commitsAt countIn speaks dataIn commitsIn initial withRound runTo runOf
+second-decides =
+    (record { process = omega arith; state = refl }, record { process = omega arith; state = refl }, record { process = omega arith; state = refl })
+
 more-commits : PairMet crashText moreCommitsText 2 1
-unfolding endOf crashText moreCommitsText noCrashText opening case1 case3 textOf ascii onesIn member ones64 number numberFrom bytesOf mapFrom pointFrom faultOf withinLimits arriving sends receives amongFirst reachAt reachIn reach stateOf crashesIn sentBy received afterOutcome after statesAfter isUndecided anyUndecided dataAt commitsAt countIn speaks dataIn commitsIn isIdle countsAsCrash crashCount initial withRound runTo runOf crashesOf digitValue isDigit scan closed unclosed linesFrom linesOf proceed readFrom isKind headerSays afterProposal proposalSays failureLine placesCrash allBetween suitsStep crashSays failureSays lineSays unproposed withProposal withCrash begin store accept atEnd readTicket
 more-commits =
     record {
-      first = instanceWith (crashes 1 (duringCommits 1));
-      second = instanceWith (crashes 1 (duringCommits 3));
-      read = refl;
-      readSecond = refl;
-      paired = paired-commits;
-      decides = record { process = omega arith; state = refl };
-      decidesSecond = record { process = omega arith; state = refl };
+      first = crash;
+      second = allCommits;
+      lines = paired-commits;
+      instances = record { first = texts-read .0; second = texts-read .1; paired = paired-with _ _ (moreCommits (omega arith)) };
+      decides = second-decides .0;
+      decidesSecond = second-decides .1;
     }
 
 line-missing : PairMet crashText noCrashText 2 1
-unfolding endOf crashText moreCommitsText noCrashText opening case1 case3 textOf ascii onesIn member ones64 number numberFrom bytesOf mapFrom pointFrom faultOf withinLimits arriving sends receives amongFirst reachAt reachIn reach stateOf crashesIn sentBy received afterOutcome after statesAfter isUndecided anyUndecided dataAt commitsAt countIn speaks dataIn commitsIn isIdle countsAsCrash crashCount initial withRound runTo runOf crashesOf digitValue isDigit scan closed unclosed linesFrom linesOf proceed readFrom isKind headerSays afterProposal proposalSays failureLine placesCrash allBetween suitsStep crashSays failureSays lineSays unproposed withProposal withCrash begin store accept atEnd readTicket
 line-missing =
     record {
-      first = instanceWith (crashes 1 (duringCommits 1));
-      second = instanceWith correct;
-      read = refl;
-      readSecond = refl;
-      paired = paired-missing;
-      decides = record { process = omega arith; state = refl };
-      decidesSecond = record { process = omega arith; state = refl };
+      first = crash;
+      second = noCrash;
+      lines = paired-missing;
+      instances = record { first = texts-read .0; second = texts-read .2; paired = paired-with _ _ missing };
+      decides = second-decides .0;
+      decidesSecond = second-decides .2;
     }
 
 -- The buffer of 100 bytes holds the result and, behind it, what stood there.
 written : RunMet crashText 85
-unfolding answerOf runCode running resultIn bufferAfter resultText resultLines joined lastLine processLine endBytes resultSize hexLine hexDigits digitOf crashText moreCommitsText noCrashText opening case1 case3 textOf ascii onesIn member ones64 number numberFrom bytesOf mapFrom pointFrom faultOf withinLimits arriving sends receives amongFirst reachAt reachIn reach stateOf crashesIn sentBy received afterOutcome after statesAfter isUndecided anyUndecided dataAt commitsAt countIn speaks dataIn commitsIn isIdle countsAsCrash crashCount initial withRound runTo runOf crashesOf digitValue isDigit scan closed unclosed linesFrom linesOf proceed readFrom isKind headerSays afterProposal proposalSays failureLine placesCrash allBetween suitsStep crashSays failureSays lineSays unproposed withProposal withCrash begin store accept atEnd readTicket
+unfolding answerOf runCode running resultIn bufferAfter resultText resultLines joined lastLine processLine endBytes resultSize hexLine hexDigits digitOf crashText moreCommitsText noCrashText opening textOf ascii onesIn member ones64 number numberFrom bytesOf mapFrom pointFrom faultOf withinLimits arriving sends receives amongFirst reachAt reachIn reach stateOf crashesIn sentBy received afterOutcome after statesAfter isUndecided anyUndecided dataAt commitsAt countIn speaks dataIn commitsIn isIdle countsAsCrash crashCount initial withRound runTo runOf crashesOf digitValue isDigit scan closed unclosed linesFrom linesOf proceed readFrom isKind headerSays afterProposal proposalSays failureLine placesCrash allBetween suitsStep crashSays failureSays lineSays unproposed withProposal withCrash begin store accept atEnd readTicket
 written =
     record {
       before = replicate 100 165;

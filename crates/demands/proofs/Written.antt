@@ -32,7 +32,8 @@ ran-wrote text before out size ran = by-case (running text (length before)) refl
     by-case (refused number line) e (unread _ _ read) = absurd (written-not-refused size number line (rw e at (ran .answered)))
 
 answered-wrote : (text before out : List ℕ) (code : ℕ) → code < refusalsFrom → RunAnswered text before out code → (x : Instance) × Wrote text x out
-answered-wrote text before out code small (result x read room size less front) = (x, record { read = read; behind = drop (resultSize (x .processes)) before; front = front })
+answered-wrote text before out code small (result x read room size less front) =
+    (x, record { read = read; behind = drop (resultSize (x .processes)) before; front = front })
 answered-wrote text before out code small (refusal number line reason coded large same) = absurd (omega arith)
 
 -- The program has room for the result of 64 processes.
@@ -55,6 +56,7 @@ pub writes-results : WritesResults
 writes-results =
     record {
       byRunning = ran-wrote;
-      byCall = λ text before out code wrote. answered-wrote text before out code (omega (arith, wrote .small)) (run-answered text before out code (wrote .call));
+      byCall = λ text before out code wrote.
+          answered-wrote text before out code (omega (arith, wrote .small)) (run-answered text before out code (wrote .call));
       byProgram = program-wrote;
     }

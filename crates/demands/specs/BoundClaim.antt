@@ -8,7 +8,7 @@ use Rattle.coordinator.specs.SpeakerBound.{SpeakerBound, boundBySpeakers}
 use Rattle.coordinator.specs.CountsReached.{CountsReached}
 use Rattle.formats.specs.Reading.{accepted}
 use Rattle.formats.specs.Ticket.{readTicket}
-use Rattle.demands.specs.Said.{Counts, countsSaid}
+use Rattle.demands.specs.OutputSays.{Counts, countsSaid}
 use Rattle.demands.specs.Written.{Wrote}
 
 -- Of the counts of a last line, among n processes.

@@ -1,6 +1,5 @@
--- Demand 1 (document 00): "A ticket, well formed or damaged, gets a result, or the number of its refusal and its first wrong line (0 if no line is
--- wrong). A refusal
--- writes nothing to the output buffer. Desk state and frames are checked in the same way, and a refused call changes no state."
+-- Demand 1 (document 00): "A ticket, well formed or damaged, gets a result, or the number of its refusal and its first wrong line (0 if no line is wrong).
+-- A refusal writes nothing to the output buffer. Desk state and frames are checked in the same way, and a refused call changes no state."
 use mathlib.Core.List.{List, _++_}
 use mathlib.Core.Path.{_≡_}
 use mathlib.Core.Bool.{true}
@@ -14,7 +13,7 @@ use Rattle.formats.specs.Ticket.{readTicket}
 use Rattle.formats.specs.FirstWrong.{FirstWrong}
 use Rattle.formats.specs.ResultLine.{resultText, resultSize, refusalLine}
 use Rattle.formats.specs.Running.{programWrites}
-use Rattle.demands.specs.Said.{refusalSaid}
+use Rattle.demands.specs.OutputSays.{refusalSaid}
 use Rattle.part_format.specs.Refused.{RefusedCallsChangeNothing, SpeakAnswersApart}
 use Rattle.formats.specs.Code.{refusalsFrom, refusalCode, RunCall, SettlesAs}
 
@@ -24,8 +23,7 @@ pub data RunRefused (text : List ℕ) (room : ℕ) : (refusal line : ℕ) → Ty
   tooShort : (x : Instance) → readTicket text ≡ accepted x → room < resultSize (x .processes) → RunRefused text room 9 0
 
 -- What the call of running answers, and what the buffer holds afterwards: the size of the result, which stands at its front, and behind it what stood
--- there; or a refusal,
--- and all as it was.
+-- there; or a refusal, and all as it was.
 pub data RunAnswered (text before after : List ℕ) (code : ℕ) : Type 0 where
   result : (x : Instance) → readTicket text ≡ accepted x → resultSize (x .processes) ≤ length before → code ≡ resultSize (x .processes) → code < refusalsFrom
       → after ≡ resultText x ++ drop (resultSize (x .processes)) before → RunAnswered text before after code

@@ -12,7 +12,7 @@ use Rattle.consensus.specs.Consensus.{UniformConsensus, CountsCrashes, NoLater,
 use Rattle.coordinator.specs.Pairing.{Paired}
 use Rattle.formats.specs.Reading.{accepted}
 use Rattle.formats.specs.Ticket.{readTicket}
-use Rattle.demands.specs.Said.{Counts, Says}
+use Rattle.demands.specs.OutputSays.{Counts, OutputSays}
 use Rattle.demands.specs.Written.{Wrote}
 use Rattle.demands.specs.PairedTexts.{PairedTexts}
 
@@ -24,18 +24,25 @@ pub record RoundsClaim : Type 0 where
   pub crashed : (text : List ℕ) (x : Instance) → readTicket text ≡ accepted x → crashesOf x ≡ crashedCount (endsOf x (endOf x))
   pub noLater : (a b : List ℕ) (x y : Instance) → readTicket a ≡ accepted x → readTicket b ≡ accepted y → PairedTexts a b → NoLater x (endOf x) y (endOf y)
 
--- Of every two accepted texts whose instances are paired, however their lines stand.
+-- Two texts are accepted, and the instances that they describe are paired.
+pub record PairedInstances (a b : List ℕ) (x y : Instance) : Type 0 where
+  pub first : readTicket a ≡ accepted x
+  pub second : readTicket b ≡ accepted y
+  -- however their lines stand
+  pub paired : Paired x y
+
+-- Of every two such texts.
 unfoldable pub InstancesClaim : Type 0
-InstancesClaim = (a b : List ℕ) (x y : Instance) → readTicket a ≡ accepted x → readTicket b ≡ accepted y → Paired x y → NoLater x (endOf x) y (endOf y)
+InstancesClaim = (a b : List ℕ) (x y : Instance) → PairedInstances a b x y → NoLater x (endOf x) y (endOf y)
 
 -- Of the ends and the f that the bytes of a result say, wherever running writes one; and of every two results whose texts are paired.
 pub record OutputClaim : Type 0 where
-  pub consensus : (text : List ℕ) (x : Instance) (out : List ℕ) (ends : ℕ → State) (counts : Counts) → Wrote text x out → Says x out ends counts
+  pub consensus : (text : List ℕ) (x : Instance) (out : List ℕ) (ends : ℕ → State) (counts : Counts) → Wrote text x out → OutputSays x out ends counts
       → UniformConsensus (suc (counts .crashes)) x ends
-  pub crashes : (text : List ℕ) (x : Instance) (out : List ℕ) (ends : ℕ → State) (counts : Counts) → Wrote text x out → Says x out ends counts
+  pub crashes : (text : List ℕ) (x : Instance) (out : List ℕ) (ends : ℕ → State) (counts : Counts) → Wrote text x out → OutputSays x out ends counts
       → CountsCrashes (counts .crashes) x ends
   pub noLater : (a b : List ℕ) (x y : Instance) (out out′ : List ℕ) (ends ends′ : ℕ → State) (counts counts′ : Counts)
-      → Wrote a x out → Wrote b y out′ → Says x out ends counts → Says y out′ ends′ counts′ → PairedTexts a b → NoLater x ends y ends′
+      → Wrote a x out → Wrote b y out′ → OutputSays x out ends counts → OutputSays y out′ ends′ counts′ → PairedTexts a b → NoLater x ends y ends′
 
 -- Demand 3: these claims.
 pub record Demand3 : Type 0 where

@@ -1,4 +1,4 @@
-pub mod Said
+pub mod OutputSays
 pub mod Written
 pub mod PairedTexts
 pub mod PartsClaim

@@ -1,7 +1,6 @@
 -- Two texts paired line by line (document 01, 'A round', last paragraph: "lines are equal if their digits make the same bytes. Each step 02 line of the
--- first, idle or not,
--- stands in the second with the same station and a count no lower, or is missing there; the second has no other failure lines"). All other lines are the
--- same.
+-- first, idle or not, stands in the second with the same station and a count no lower, or is missing there; the second has no other failure lines"). All
+-- other lines are the same.
 use mathlib.Core.List.{List, [], _∷_}
 use mathlib.Core.Path.{_≡_}
 use Prim.Native.Nat.{ℕ, _≤_}
@@ -23,5 +22,5 @@ pub data PairedLines : List Line → List Line → Type 0 where
   missingLine : {b : List ℕ} {l m : List Line} → CommitLine b → PairedLines l m → PairedLines (bytes b ∷ l) m
 
 -- Two texts are paired if their lines are.
-unfoldable pub PairedTexts : List ℕ → List ℕ → Type 0
+unfoldable pub PairedTexts : (a b : List ℕ) → Type 0
 PairedTexts a b = PairedLines (linesOf a) (linesOf b)

@@ -1,17 +1,15 @@
 -- The premises of the claims can be met: case 1 (document 01, 'Worked runs') is run, and paired with case 3 and with itself without its failure line.
 use mathlib.Core.List.{List, [], _∷_, _++_}
-use mathlib.Core.Path.{_≡_}
 use Prim.Native.Nat.{ℕ}
 use Rattle.consensus.specs.Instance.{Instance}
 use Rattle.consensus.specs.Consensus.{Decides}
 use Rattle.coordinator.specs.Run.{endOf}
-use Rattle.formats.specs.Reading.{accepted}
-use Rattle.formats.specs.Ticket.{readTicket}
 use Rattle.formats.specs.Table.{textOf, opening, case1, case3}
 use Rattle.running.specs.Answer.{Ran}
 use Rattle.running.specs.declared.RunAnswer.the-variants.{Written}
 use Rattle.demands.specs.Written.{CallWrote}
 use Rattle.demands.specs.PairedTexts.{PairedTexts}
+use Rattle.demands.specs.Demand3.{PairedInstances}
 
 -- Case 1's text, case 3's, and case 1's without its failure line.
 unfoldable pub crashText : List ℕ
@@ -23,13 +21,12 @@ moreCommitsText = textOf (case3 .ticket)
 unfoldable pub noCrashText : List ℕ
 noCrashText = textOf (opening ++ ("04" ∷ []))
 
--- Two texts are accepted and paired, and process 2 decides in the first in round r and in the second in round s.
+-- Two texts are accepted, and paired line by line and in what they describe; process 2 decides in the first in round r and in the second in round s.
 pub record PairMet (a b : List ℕ) (r s : ℕ) : Type 0 where
   pub first : Instance
   pub second : Instance
-  pub read : readTicket a ≡ accepted first
-  pub readSecond : readTicket b ≡ accepted second
-  pub paired : PairedTexts a b
+  pub lines : PairedTexts a b
+  pub instances : PairedInstances a b first second
   pub decides : Decides first (endOf first) 2 r 10
   pub decidesSecond : Decides second (endOf second) 2 s 10
 

@@ -22,9 +22,8 @@ pub record CallWrote (text before out : List ℕ) (code : ℕ) : Type 0 where
   pub call : RunCall text before out code
   pub small : code < refusalsFrom
 
--- The claim: it does wherever running answers that it wrote one, by the library's own contract; wherever the C call answers less than 65536, by that
--- call's answer and
--- bytes alone; and in what the program writes for an accepted text.
+-- The claim: it does wherever running answers that it wrote one, by the library's own contract; wherever the C call answers less than 65536, by that call's
+-- answer and bytes alone; and in what the program writes for an accepted text.
 pub record WritesResults : Type 0 where
   pub byRunning : (text before out : List ℕ) (size : ℕ) → Ran text before out (Written size) → (x : Instance) × Wrote text x out
   pub byCall : (text before out : List ℕ) (code : ℕ) → CallWrote text before out code → (x : Instance) × Wrote text x out

@@ -35,7 +35,14 @@ module _ (text : List ℕ) (room : ℕ) where
   result-told x e ran =
       let formed = accepted-well-formed text x e in
       let size = length-text x formed in
-      record { instance = x; read = e; ran = ran; size = size; least = omega (arith, size, formed .some-process); most = omega (arith, size, formed .at-most-64) }
+      record {
+        instance = x;
+        read = e;
+        ran = ran;
+        size = size;
+        least = omega (arith, size, formed .some-process);
+        most = omega (arith, size, formed .at-most-64);
+      }
 
   accepted-told : (x : Instance) (short : Bool) → readTicket text ≡ accepted x → ltb room (resultSize (x .processes)) ≡ short
       → TellsRun text room (cond short (refused 9 0) (accepted (resultText x))) (runCode (cond short (refused 9 0) (accepted (resultText x))))
@@ -43,7 +50,8 @@ module _ (text : List ℕ) (room : ℕ) where
   accepted-told x true e h = refusal-told 9 0 9 0 (omega arith) (omega arith) (omega arith) (omega arith)
   accepted-told x false e h = result-told x e (rw (e, h) refl)
 
-  reading-told : (reading : Reading Instance) → readTicket text ≡ reading → RefusedBy lastRefused reading → TellsRun text room (resultIn room reading) (runCode (resultIn room reading))
+  reading-told : (reading : Reading Instance) → readTicket text ≡ reading → RefusedBy lastRefused reading
+      → TellsRun text room (resultIn room reading) (runCode (resultIn room reading))
   unfolding TellsRun runCode resultIn RefusedBy
   reading-told (accepted x) e h = accepted-told x (ltb room (resultSize (x .processes))) e refl
   reading-told (refused number line) e h = refusal-told 9 0 number line (omega arith) (h .0) (omega (arith, h .1)) (omega (arith, h .2))
@@ -57,7 +65,8 @@ module _ (text : List ℕ) (room : ℕ) where
   size-read (accepted result) code told small = told
   size-read (refused number line) code told small = absurd (omega (arith, told .isRefusal))
 
-  refusal-read : (answer : Reading (List ℕ)) (code : ℕ) → TellsRun text room answer code → refusalsFrom ≤ code → answer ≡ refused (code / refusalsFrom % refusalsFrom) (code % refusalsFrom)
+  refusal-read : (answer : Reading (List ℕ)) (code : ℕ) → TellsRun text room answer code → refusalsFrom ≤ code
+      → answer ≡ refused (code / refusalsFrom % refusalsFrom) (code % refusalsFrom)
   unfolding TellsRun resultSize
   refusal-read (accepted result) code told large = absurd (omega (arith, told .most))
   refusal-read (refused number line) code told large = rw (told .readsNumber, told .readsLine) refl

@@ -1,4 +1,5 @@
--- What refusals 7 and 8 let pass: a failure line that does states a fault that is allowed, and one of the commit step a fault in its process's own round. Assumes nothing.
+-- What refusals 7 and 8 let pass: a failure line that does states a fault that is allowed, and one of the commit step a fault in its process's own round.
+-- Assumes nothing.
 use mathlib.Core.Path.{_≡_}
 use mathlib.Core.Bool.{Bool, true, false, cond, _&&_}
 use Prim.Native.Nat.{ℕ, suc, _-_, _≤_, _<_}

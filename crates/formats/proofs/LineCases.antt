@@ -45,7 +45,8 @@ pub record CrashPasses (n t lines last : ℕ) (b : List ℕ) : Type 0 where
 
 -- The answers to a line behind the header.
 pub data LineCase (n t : ℕ) (b : List ℕ) : Place → LineAnswer → Type 0 where
-  proposalSaid : {count : ℕ} → isKind 2 6 b ≡ true → getD b 1 0 ≡ suc count → LineCase n t b (Proposals count) (Proposal count (number (drop 2 b)) (afterProposal n count))
+  proposalSaid : {count : ℕ} → isKind 2 6 b ≡ true → getD b 1 0 ≡ suc count
+      → LineCase n t b (Proposals count) (Proposal count (number (drop 2 b)) (afterProposal n count))
   crashSaid : {lines last : ℕ} → CrashPasses n t lines last b → LineCase n t b (Failures lines last) (Crash (suc lines) (failureLine b))
   endSaid : {lines last : ℕ} → isKind 4 1 b ≡ true → LineCase n t b (Failures lines last) End
   lineRefused : {place : Place} (refusal : ℕ) → 3 ≤ refusal → refusal ≤ 8 → LineCase n t b place (Refused refusal)
@@ -75,12 +76,14 @@ module _ (n t : ℕ) (b : List ℕ) where
       by-step few placed false e = lineRefused 8 (omega arith) (omega arith)
 
       by-place : lines < t → (placed : Bool) → placesCrash n t last (failureLine b) ≡ placed
-          → LineCase n t b (Failures lines last) (cond (not placed) (Refused 7) (cond (not (suitsStep n (failureLine b))) (Refused 8) (Crash (suc lines) (failureLine b))))
+          → LineCase n t b (Failures lines last) (cond (not placed) (Refused 7)
+          (cond (not (suitsStep n (failureLine b))) (Refused 8) (Crash (suc lines) (failureLine b))))
       by-place few true e = by-step few e (suitsStep n (failureLine b)) refl
       by-place few false e = lineRefused 7 (omega arith) (omega arith)
 
       by-count : (many : Bool) → leb t lines ≡ many → LineCase n t b (Failures lines last) (cond many (Refused 6)
-          (cond (not (placesCrash n t last (failureLine b))) (Refused 7) (cond (not (suitsStep n (failureLine b))) (Refused 8) (Crash (suc lines) (failureLine b)))))
+          (cond (not (placesCrash n t last (failureLine b))) (Refused 7)
+          (cond (not (suitsStep n (failureLine b))) (Refused 8) (Crash (suc lines) (failureLine b)))))
       by-count true e = lineRefused 6 (omega arith) (omega arith)
       by-count false e = by-place (leb-false _ _ e) (placesCrash n t last (failureLine b)) refl
 

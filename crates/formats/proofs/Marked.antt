@@ -28,16 +28,16 @@ use Rattle.formats.specs.ResultLine.{endBytes, processLine, lastLine, jo
 use Rattle.formats.specs.Running.{resultIn, running, written, programWrites}
 use Rattle.formats.specs.Code.{runCode}
 use Rattle.formats.specs.AnswerCases.{CodeCases}
-use Rattle.formats.specs.Marked.{writes, says, MarkedCases}
-use Rattle.formats.specs.Table.{textOf, case1, case2, case3, case4, case5, case6, case7, case8, case9, case10, case10Passes, case11, case12, opening, opening64, cases}
-use Rattle.formats.specs.FurtherRuns.{noCommit, twoCommits, setOfTwo, silentEnd, furtherRuns}
+use Rattle.formats.specs.Marked.{writes, expected, MarkedCases}
+use Rattle.formats.specs.Table.{textOf, opening, opening64, cases}
+use Rattle.formats.specs.FurtherRuns.{furtherRuns}
 
 -- For each case the program writes what the case says.
 pub marked-cases : MarkedCases
-unfolding writes says cases furtherRuns noCommit twoCommits setOfTwo silentEnd opening opening64 textOf ascii case1 case2 case3 case4 case5 case6 case7 case8 case9 case10 case10Passes case11 case12 onesIn member ones64 number numberFrom bytesOf mapFrom pointFrom faultOf withinLimits arriving sends receives amongFirst reachAt reachIn reach stateOf crashesIn sentBy received afterOutcome after statesAfter isUndecided anyUndecided dataAt commitsAt countIn speaks dataIn commitsIn isIdle countsAsCrash crashCount initial withRound runTo runOf crashesOf digitValue isDigit scan closed unclosed linesFrom linesOf proceed readFrom isKind headerSays afterProposal proposalSays failureLine placesCrash allBetween suitsStep crashSays failureSays lineSays unproposed withProposal withCrash begin store accept atEnd readTicket digitOf hexDigits hexLine endBytes processLine lastLine joined resultLines resultText resultSize refusalLine resultIn running written programWrites
+unfolding writes expected cases furtherRuns opening opening64 textOf ascii onesIn member ones64 number numberFrom bytesOf mapFrom pointFrom faultOf withinLimits arriving sends receives amongFirst reachAt reachIn reach stateOf crashesIn sentBy received afterOutcome after statesAfter isUndecided anyUndecided dataAt commitsAt countIn speaks dataIn commitsIn isIdle countsAsCrash crashCount initial withRound runTo runOf crashesOf digitValue isDigit scan closed unclosed linesFrom linesOf proceed readFrom isKind headerSays afterProposal proposalSays failureLine placesCrash allBetween suitsStep crashSays failureSays lineSays unproposed withProposal withCrash begin store accept atEnd readTicket digitOf hexDigits hexLine endBytes processLine lastLine joined resultLines resultText resultSize refusalLine resultIn running written programWrites
 marked-cases = record { numbers = refl; written = refl }
 
 -- A C caller is answered as the specs say.
 pub code-cases : CodeCases
-unfolding CodeCases runCode opening textOf ascii case1 case12 onesIn member ones64 number numberFrom bytesOf mapFrom pointFrom faultOf withinLimits arriving sends receives amongFirst reachAt reachIn reach stateOf crashesIn sentBy received afterOutcome after statesAfter isUndecided anyUndecided dataAt commitsAt countIn speaks dataIn commitsIn isIdle countsAsCrash crashCount initial withRound runTo runOf crashesOf digitValue isDigit scan closed unclosed linesFrom linesOf proceed readFrom isKind headerSays afterProposal proposalSays failureLine placesCrash allBetween suitsStep crashSays failureSays lineSays unproposed withProposal withCrash begin store accept atEnd readTicket digitOf hexDigits hexLine endBytes processLine lastLine joined resultLines resultText resultSize resultIn running
+unfolding CodeCases runCode opening textOf ascii onesIn member ones64 number numberFrom bytesOf mapFrom pointFrom faultOf withinLimits arriving sends receives amongFirst reachAt reachIn reach stateOf crashesIn sentBy received afterOutcome after statesAfter isUndecided anyUndecided dataAt commitsAt countIn speaks dataIn commitsIn isIdle countsAsCrash crashCount initial withRound runTo runOf crashesOf digitValue isDigit scan closed unclosed linesFrom linesOf proceed readFrom isKind headerSays afterProposal proposalSays failureLine placesCrash allBetween suitsStep crashSays failureSays lineSays unproposed withProposal withCrash begin store accept atEnd readTicket digitOf hexDigits hexLine endBytes processLine lastLine joined resultLines resultText resultSize resultIn running
 code-cases = refl

@@ -15,7 +15,8 @@ use Rattle.formats.specs.declared.Place.{Place}
 use Rattle.formats.specs.declared.Place.the-variants.{Proposals, Failures, Ended}
 use Rattle.formats.specs.declared.HeaderAnswer.{HeaderAnswer}
 use Rattle.formats.specs.declared.LineAnswer.{LineAnswer}
-use Rattle.formats.proofs.LineCases.{HeaderCase, limitsSaid, headerRefused, header-case, LineCase, proposalSaid, crashSaid, endSaid, lineRefused, line-case}
+use Rattle.formats.proofs.LineCases.{HeaderCase, limitsSaid, headerRefused, header-case, LineCase}
+use Rattle.formats.proofs.LineCases.{proposalSaid, crashSaid, endSaid, lineRefused, line-case}
 use Rattle.formats.specs.Ticket.{ticketLimit, atEnd, readTicket}
 
 -- A line, if it is refused, is refused with one of these numbers.
@@ -31,7 +32,8 @@ RefusedBy last (refused number k) = (1 ≤ number) × (number ≤ 8) × (k ≤ l
 -- Reading, whatever the format.
 module _ {S A : Type 0} (accept : S → List ℕ → LineVerdict S) (end : S → ℕ → Reading A) (last : ℕ)
     (numbered : (s : S) (b : List ℕ) → Numbered (accept s b)) (ends : (s : S) (k : ℕ) → k ≤ last → RefusedBy last (end s k)) where
-  proceed-refused : (step : LineVerdict S) (k : ℕ) (go : S → Reading A) → Numbered step → k ≤ last → ((s : S) → RefusedBy last (go s)) → RefusedBy last (proceed step k go)
+  proceed-refused : (step : LineVerdict S) (k : ℕ) (go : S → Reading A) → Numbered step → k ≤ last → ((s : S) → RefusedBy last (go s))
+      → RefusedBy last (proceed step k go)
   unfolding Numbered RefusedBy proceed
   proceed-refused (next s) k go h g more = more s
   proceed-refused (refuse number) k go h g more = (h .0, h .1, g)
@@ -61,7 +63,8 @@ from-few [] s = unclosed-few s
 from-few (c ∷ text) s =
     let ended = from-few text (even []) in
     let longer = from-few text (scan s c) in
-    either-few (eqb c 10) (closed s ∷ linesFrom (even []) text) (linesFrom (scan s c) text) (suc (suc (length text))) (omega (arith, ended)) (omega (arith, longer))
+    either-few (eqb c 10) (closed s ∷ linesFrom (even []) text) (linesFrom (scan s c) text) (suc (suc (length text)))
+    (omega (arith, ended)) (omega (arith, longer))
 
 -- A line of a ticket that is refused.
 line-numbered : (s : Stage) (b : List ℕ) → Numbered (accept s b)

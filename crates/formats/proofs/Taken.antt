@@ -14,13 +14,15 @@ use Rattle.formats.specs.declared.Place.the-variants.{Proposals, Failure
 use Rattle.formats.specs.declared.HeaderAnswer.{HeaderAnswer}
 use Rattle.formats.specs.declared.LineAnswer.{LineAnswer}
 use Rattle.formats.proofs.Passing.{refuse-next}
-use Rattle.formats.proofs.LineCases.{HeaderCase, limitsSaid, headerRefused, header-case, CrashPasses, LineCase, proposalSaid, crashSaid, endSaid, lineRefused, line-case}
+use Rattle.formats.proofs.LineCases.{HeaderCase, limitsSaid, headerRefused, header-case, CrashPasses, LineCase}
+use Rattle.formats.proofs.LineCases.{proposalSaid, crashSaid, endSaid, lineRefused, line-case}
 
 pub data HeaderTaken (b : List ℕ) : Stage → Type 0 where
   takenHeader : isKind 1 3 b ≡ true → withinLimits (getD b 1 0) (getD b 2 0) ≡ true → HeaderTaken b (body (Proposals 0) (unproposed (getD b 1 0) (getD b 2 0)))
 
 pub data Taken (x : Instance) (b : List ℕ) : Place → Stage → Type 0 where
-  takenProposal : {count : ℕ} → isKind 2 6 b ≡ true → Taken x b (Proposals count) (body (afterProposal (x .processes) count) (withProposal x (number (drop 2 b))))
+  takenProposal : {count : ℕ} → isKind 2 6 b ≡ true
+      → Taken x b (Proposals count) (body (afterProposal (x .processes) count) (withProposal x (number (drop 2 b))))
   takenCrash : {lines last : ℕ} → CrashPasses (x .processes) (x .resilience) lines last b
       → Taken x b (Failures lines last) (body (Failures (suc lines) (failureLine b .process)) (withCrash x (failureLine b)))
   takenEnd : {lines last : ℕ} → isKind 4 1 b ≡ true → Taken x b (Failures lines last) (body Ended x)

@@ -1,4 +1,5 @@
--- An accepted ticket is well-formed: each line keeps what is known of the stage, so the stage after the last line has all that `WellFormed` asks. Assumes nothing.
+-- An accepted ticket is well-formed: each line keeps what is known of the stage, so the stage after the last line has all that `WellFormed` asks.
+-- Assumes nothing.
 use mathlib.Core.List.{List, [], _∷_, _++_}
 use mathlib.Core.Path.{_≡_, refl, subst, _∙_}
 use mathlib.Core.Bool.{Bool, true, false, cond}
@@ -26,7 +27,8 @@ use Rattle.formats.specs.declared.HeaderAnswer.{HeaderAnswer}
 use Rattle.formats.specs.declared.LineAnswer.{LineAnswer}
 use Rattle.formats.specs.Ticket.{ticketLimit, atEnd, readTicket}
 use Rattle.formats.proofs.LineBytes.{lines-bytes}
-use Rattle.formats.proofs.LineCases.{HeaderCase, limitsSaid, headerRefused, header-case, CrashPasses, LineCase, proposalSaid, crashSaid, endSaid, lineRefused, line-case}
+use Rattle.formats.proofs.LineCases.{HeaderCase, limitsSaid, headerRefused, header-case, CrashPasses, LineCase}
+use Rattle.formats.proofs.LineCases.{proposalSaid, crashSaid, endSaid, lineRefused, line-case}
 use Rattle.formats.proofs.Keeping.{Keeps, Gives, reading-gives}
 use Rattle.formats.proofs.CrashAllowed.{crash-placed, crash-allowed}
 use Rattle.consensus.proofs.Limits.{Limits, limits-hold}
@@ -148,8 +150,10 @@ unfolding accept store Keeps StageAllowed afterProposal
 stage-keeps header b h g = header-keeps b
 stage-keeps (body place x) b h g = by-case (line-case (x .processes) (x .resilience) b place) g
   where
-    by-case : {place : Place} {a : LineAnswer} → LineCase (x .processes) (x .resilience) b place a → StageAllowed (body place x) → Keeps StageAllowed (store x a)
-    by-case (proposalSaid {count} kind station) known = proposal-next x count (number (drop 2 b)) known (value-fits b h kind) (eqb (suc count) (x .processes)) refl
+    by-case : {place : Place} {a : LineAnswer} → LineCase (x .processes) (x .resilience) b place a → StageAllowed (body place x)
+        → Keeps StageAllowed (store x a)
+    by-case (proposalSaid {count} kind station) known =
+        proposal-next x count (number (drop 2 b)) known (value-fits b h kind) (eqb (suc count) (x .processes)) refl
     by-case (crashSaid {lines} {last} passes) known = with-crash x lines last b known passes
     by-case (endSaid kind) known = known .well-formed
     by-case (lineRefused refusal some few) known = tt

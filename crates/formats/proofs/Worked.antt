@@ -16,6 +16,7 @@ use Rattle.coordinator.specs.Count.{dataAt, commitsAt, countIn, speaks, dataIn,
 use Rattle.consensus.specs.CrashCount.{isIdle, countsAsCrash, crashCount}
 use Rattle.coordinator.specs.Run.{initial, withRound, runTo, runOf, crashesOf}
 use Rattle.coordinator.specs.Settling.{valuesHeld, allAre, oneValue, qualifies}
+use Rattle.coordinator.specs.WorkedRuns.{qualifyingTo, qualifyingRounds}
 use Rattle.formats.specs.Digit.{digitValue, isDigit}
 use Rattle.formats.specs.Line.{scan, closed, unclosed, linesFrom, linesOf}
 use Rattle.formats.specs.Reading.{proceed, readFrom}
@@ -23,14 +24,14 @@ use Rattle.formats.specs.FailureLine.{placesCrash, allBetween, suitsStep
 use Rattle.formats.specs.Says.{isKind, headerSays, afterProposal, proposalSays, failureLine, crashSays, failureSays, lineSays}
 use Rattle.formats.specs.Accept.{unproposed, withProposal, withCrash, begin, store, accept}
 use Rattle.formats.specs.Ticket.{atEnd, readTicket}
-use Rattle.formats.specs.Table.{textOf, opening, case1, case2, case3, case4, case5, case6, case7, case8, case9}
-use Rattle.formats.specs.FurtherRuns.{noCommit, twoCommits, setOfTwo, silentEnd, furtherRuns}
-use Rattle.formats.specs.Worked.{qualifyingFrom, qualifyingIn, SettlingRounds, boundsOf, Case9MeetsBound}
+use Rattle.formats.specs.Table.{textOf, opening}
+use Rattle.formats.specs.FurtherRuns.{furtherRuns}
+use Rattle.formats.specs.Worked.{qualifyingIn, SettlingRounds, boundsOf, Case9MeetsBound}
 
 pub settling-rounds : SettlingRounds
-unfolding SettlingRounds qualifyingFrom qualifyingIn textOf ascii opening case1 case2 case3 case4 case5 case6 case7 case8 case9 furtherRuns noCommit twoCommits setOfTwo silentEnd onesIn member ones64 number numberFrom mapFrom pointFrom faultOf withinLimits arriving sends receives amongFirst reachAt reachIn reach stateOf crashesIn sentBy received afterOutcome after statesAfter isUndecided anyUndecided dataAt commitsAt countIn speaks dataIn commitsIn isIdle countsAsCrash crashCount initial withRound runTo runOf crashesOf valuesHeld allAre oneValue qualifies digitValue isDigit scan closed unclosed linesFrom linesOf proceed readFrom isKind headerSays afterProposal proposalSays failureLine placesCrash allBetween suitsStep crashSays failureSays lineSays unproposed withProposal withCrash begin store accept atEnd readTicket
+unfolding SettlingRounds qualifyingTo qualifyingRounds qualifyingIn textOf ascii opening furtherRuns onesIn member ones64 number numberFrom mapFrom pointFrom faultOf withinLimits arriving sends receives amongFirst reachAt reachIn reach stateOf crashesIn sentBy received afterOutcome after statesAfter isUndecided anyUndecided dataAt commitsAt countIn speaks dataIn commitsIn isIdle countsAsCrash crashCount initial withRound runTo runOf crashesOf valuesHeld allAre oneValue qualifies digitValue isDigit scan closed unclosed linesFrom linesOf proceed readFrom isKind headerSays afterProposal proposalSays failureLine placesCrash allBetween suitsStep crashSays failureSays lineSays unproposed withProposal withCrash begin store accept atEnd readTicket
 settling-rounds = refl
 
 pub case-9-meets-bound : Case9MeetsBound
-unfolding Case9MeetsBound boundsOf textOf ascii case9 onesIn member ones64 number numberFrom mapFrom pointFrom faultOf withinLimits arriving sends receives amongFirst reachAt reachIn reach stateOf crashesIn sentBy received afterOutcome after statesAfter isUndecided anyUndecided dataAt commitsAt countIn speaks dataIn commitsIn isIdle countsAsCrash crashCount initial withRound runTo runOf crashesOf digitValue isDigit scan closed unclosed linesFrom linesOf proceed readFrom isKind headerSays afterProposal proposalSays failureLine placesCrash allBetween suitsStep crashSays failureSays lineSays unproposed withProposal withCrash begin store accept atEnd readTicket
+unfolding Case9MeetsBound boundsOf textOf ascii onesIn member ones64 number numberFrom mapFrom pointFrom faultOf withinLimits arriving sends receives amongFirst reachAt reachIn reach stateOf crashesIn sentBy received afterOutcome after statesAfter isUndecided anyUndecided dataAt commitsAt countIn speaks dataIn commitsIn isIdle countsAsCrash crashCount initial withRound runTo runOf crashesOf digitValue isDigit scan closed unclosed linesFrom linesOf proceed readFrom isKind headerSays afterProposal proposalSays failureLine placesCrash allBetween suitsStep crashSays failureSays lineSays unproposed withProposal withCrash begin store accept atEnd readTicket
 case-9-meets-bound = refl

@@ -1,6 +1,5 @@
 -- What is told of a refused text: the line that the program writes for it (document 01, 'The result': "A refusal is the one line 1F, number, line"), and
--- the number that a
--- C caller is answered (docs/DECISIONS.md, S5).
+-- the number that a C caller is answered (docs/DECISIONS.md, S5).
 use mathlib.Core.List.{List, [], _∷_, _++_, map}
 use mathlib.Core.Path.{_≡_}
 use Prim.Native.Nat.{ℕ}

@@ -1,4 +1,4 @@
--- The numbers by which a C caller reads an answer (include/agreement.h; docs/DECISIONS.md, S5).
+-- For the code alone: the numbers by which a C caller reads an answer, which document 01 leaves open (include/agreement.h; docs/DECISIONS.md, S5).
 use mathlib.Core.List.{List}
 use mathlib.Core.Path.{_≡_}
 use Prim.Native.Nat.{ℕ, _+_, _*_}

@@ -1,4 +1,5 @@
--- What a C caller reads off the number that `uc_run` or `uc_settle` answers (include/agreement.h; docs/DECISIONS.md, S5): answers can be told apart.
+-- For the code alone: what a C caller reads off the number that `uc_run` or `uc_settle` answers, so that answers can be told apart
+-- (include/agreement.h; docs/DECISIONS.md, S5).
 use mathlib.Core.List.{List}
 use mathlib.Core.Path.{_≡_}
 use mathlib.Core.Bool.{true}
@@ -39,11 +40,11 @@ pub record TellsRound (text : List ℕ) (r code : ℕ) : Type 0 where
   pub most : code ≤ 64
 
 -- The code of an answer of running, and of settling.
-unfoldable pub TellsRun : List ℕ → ℕ → Reading (List ℕ) → ℕ → Type 0
+unfoldable pub TellsRun : (text : List ℕ) → (room : ℕ) → Reading (List ℕ) → (code : ℕ) → Type 0
 TellsRun text room (accepted result) code = TellsSize text room code
 TellsRun text room (refused number line) code = TellsRefusal 9 0 number line code
 
-unfoldable pub TellsSettling : List ℕ → Reading ℕ → ℕ → Type 0
+unfoldable pub TellsSettling : (text : List ℕ) → Reading ℕ → (code : ℕ) → Type 0
 TellsSettling text (accepted r) code = TellsRound text r code
 TellsSettling text (refused number line) code = TellsRefusal 8 0 number line code
 

@@ -1,6 +1,5 @@
--- Which line of a text is its first wrong one, and which refusal it gets (document 00, demand 1: "the number of its refusal and its first wrong line (0
--- if no line is wrong)";
--- document 01, 'Refused calls': "Then the first wrong line rules, and in it the first that applies").
+-- Which line of a text is its first wrong one, and which refusal it gets (document 00, demand 1: "the number of its refusal and its first wrong line (0 if
+-- no line is wrong)"; document 01, 'Refused calls': "Then the first wrong line rules, and in it the first that applies").
 use mathlib.Core.List.{List, [], _∷_}
 use mathlib.Core.Path.{_≡_}
 use Prim.Native.Nat.{ℕ, zero, suc, _≤_, _<_}
@@ -25,8 +24,7 @@ NotEnded (body (Failures lines last) x) = Unit {0}
 NotEnded (body Ended x) = ⊥
 
 -- A text is wrong with this refusal at this line: it is too long (1, of no line); or the lines before this one are right, and this one is no line (2), or
--- is refused
--- where it stands, or the text is over where it should stand (3).
+-- is refused where it stands, or the text is over where it should stand (3).
 pub data FirstWrong (text : List ℕ) : (refusal line : ℕ) → Type 0 where
   tooLong : ticketLimit < length text → FirstWrong text 1 0
   notALine : {k : ℕ} {u : Stage} {rest : List Line} → length text ≤ ticketLimit → Passed header (linesOf text) k u (noLine ∷ rest) → FirstWrong text 2 (suc k)

@@ -1,29 +1,25 @@
--- Runs that no marked case has, with what the program writes for them by the second implementation: of a coordinator that crashes while sending commits,
--- those that
--- send none and two; a set of several processes; and a run that ends in a silent round.
-use mathlib.Core.List.{List, [], _∷_, _++_}
-use Rattle.formats.specs.Table.{Case, caseOf, opening}
+-- Runs that no marked case has (document 01, 'Worked runs', has cases 1 to 12), with what the program writes for them by the second implementation: of a
+-- coordinator that crashes while sending commits, those that send none and two; a set of several processes; and a run that ends in a silent round.
+use mathlib.Core.List.{List, [], _∷_}
+use Rattle.formats.specs.Table.{Case, caseOf, withFailure}
 
 -- Case 1 with count 0: all data leaves and no commit.
-unfoldable pub noCommit : Case
+abbrev pub noCommit : Case
 noCommit =
-    caseOf 13 (opening ++ ("03010102000000000000000000" ∷ "04" ∷ []))
-    ("1101020100000000" ∷ "110201020000000A" ∷ "110301020000000A" ∷ "110401020000000A" ∷ "1202010200050002" ∷ [])
+    withFailure 13 "03010102000000000000000000" ("1101020100000000" ∷ "110201020000000A" ∷ "110301020000000A" ∷ "110401020000000A" ∷ "1202010200050002" ∷ [])
 
 -- Case 1 with count 2: the commits reach processes 4 and 3.
-unfoldable pub twoCommits : Case
+abbrev pub twoCommits : Case
 twoCommits =
-    caseOf 14 (opening ++ ("03010102000000000000000002" ∷ "04" ∷ []))
-    ("1101020100000000" ∷ "110201020000000A" ∷ "110301010000000A" ∷ "110401010000000A" ∷ "1202010200050004" ∷ [])
+    withFailure 14 "03010102000000000000000002" ("1101020100000000" ∷ "110201020000000A" ∷ "110301010000000A" ∷ "110401010000000A" ∷ "1202010200050004" ∷ [])
 
 -- Case 4 with the set of processes 2 and 4: two data messages leave in round 1.
-unfoldable pub setOfTwo : Case
+abbrev pub setOfTwo : Case
 setOfTwo =
-    caseOf 15 (opening ++ ("03010101000000000000000A00" ∷ "04" ∷ []))
-    ("1101020100000000" ∷ "110201020000000A" ∷ "110301020000000A" ∷ "110401020000000A" ∷ "1202010200040002" ∷ [])
+    withFailure 15 "03010101000000000000000A00" ("1101020100000000" ∷ "110201020000000A" ∷ "110301020000000A" ∷ "110401020000000A" ∷ "1202010200040002" ∷ [])
 
 -- Round 2 is silent and the last: its coordinator crashed in round 1, and process 3, the only one up and undecided, crashes in it.
-unfoldable pub silentEnd : Case
+abbrev pub silentEnd : Case
 silentEnd =
     caseOf 16 ("010403" ∷ "02010000000A" ∷ "020200000014" ∷ "02030000001E" ∷ "020400000028"
     ∷ "03010102000000000000000001" ∷ "03020100000000000000000000" ∷ "03030200000000000000000000" ∷ "04" ∷ [])

@@ -5,7 +5,7 @@ use mathlib.Core.Bool.{cond}
 use lib.Dec.{ltb}
 
 -- The digit 0-9, A-F of a value below 16. (48 is 0, 65 is A.)
-unfoldable pub digitOf : ℕ → ℕ
+unfoldable pub digitOf : (v : ℕ) → ℕ
 digitOf v = cond (ltb v 10) (48 + v) (55 + v)
 
 -- Two digits for each byte.
@@ -17,6 +17,6 @@ hexDigits (b ∷ bs) = digitOf (b / 16) ∷ digitOf (b % 16) ∷ hexDigits bs
 unfoldable pub hexLine : List ℕ → List ℕ
 hexLine bs = hexDigits bs ++ (10 ∷ [])
 
--- The length of the line of k bytes.
-abbrev pub lineSize : ℕ → ℕ
-lineSize k = 2 * k + 1
+-- The length of the line of `count` bytes.
+abbrev pub lineSize : (count : ℕ) → ℕ
+lineSize count = 2 * count + 1

@@ -11,12 +11,12 @@ unfoldable pub writes : Case → List ℕ
 writes c = programWrites (textOf (c .ticket))
 
 -- What the case says that it writes.
-unfoldable pub says : Case → List ℕ
-says c = textOf (c .output)
+unfoldable pub expected : Case → List ℕ
+expected c = textOf (c .output)
 
--- The claim: cases 1 to 12, each of them, are what the definitions give, from the ticket's text to the text written
--- (document 01, 'Worked runs': "Cases 1 to 12 are the marked ones"); and so are the further runs.
+-- The claim: cases 1 to 12, each of them, are what the definitions give, from the ticket's text to the text written (document 01, 'Worked runs': "Cases 1
+-- to 12 are the marked ones"); and so are the further runs.
 pub record MarkedCases : Type 0 where
   pub numbers : map (λ (c : Case). c .number) (cases ++ furtherRuns)
       ≡ 1 ∷ 2 ∷ 3 ∷ 4 ∷ 5 ∷ 6 ∷ 7 ∷ 8 ∷ 9 ∷ 10 ∷ 10 ∷ 11 ∷ 12 ∷ 13 ∷ 14 ∷ 15 ∷ 16 ∷ []
-  pub written : map writes (cases ++ furtherRuns) ≡ map says (cases ++ furtherRuns)
+  pub written : map writes (cases ++ furtherRuns) ≡ map expected (cases ++ furtherRuns)

@@ -1,6 +1,5 @@
 -- Texts at the limits of what a ticket may be, and what reading answers on each (document 01, 'Refused calls', "Running a ticket"): each refusal with its
--- line,
--- each limit from both sides, and which refusal is looked at first.
+-- line, each limit from both sides, and which refusal is looked at first.
 use mathlib.Core.List.{List, [], _∷_, _++_, map}
 use mathlib.Core.Path.{_≡_}
 use Prim.Native.Nat.{ℕ}

@@ -16,11 +16,11 @@ endBytes (decided round v) = 1 ∷ round ∷ bytesOf 4 v
 endBytes (crashed round) = 2 ∷ round ∷ bytesOf 4 0
 
 -- 11, station, end, round, value (4 bytes).
-unfoldable pub processLine : ℕ → State → List ℕ
+unfoldable pub processLine : (p : ℕ) → State → List ℕ
 processLine p s = hexLine (0x11 ∷ p ∷ endBytes s)
 
 -- 12, rounds, f, speakers, data (2 bytes), commits (2 bytes).
-unfoldable pub lastLine : Run → ℕ → List ℕ
+unfoldable pub lastLine : Run → (f : ℕ) → List ℕ
 lastLine run f = hexLine (0x12 ∷ run .rounds ∷ f ∷ run .speakers ∷ bytesOf 2 (run .dataSent) ++ bytesOf 2 (run .commitsSent))
 
 -- The lines one after the other.
@@ -29,7 +29,7 @@ joined [] = []
 joined (line ∷ lines) = line ++ joined lines
 
 -- The result of a run: a line for each process in order, and the last line.
-unfoldable pub resultLines : Run → ℕ → List ℕ
+unfoldable pub resultLines : Run → (f : ℕ) → List ℕ
 resultLines run f = joined (mapFrom processLine 1 (run .states)) ++ lastLine run f
 
 -- The result of an instance.
@@ -44,11 +44,11 @@ abbrev pub lastLineSize : ℕ
 lastLineSize = lineSize 8
 
 -- The length of a result of n processes.
-unfoldable pub resultSize : ℕ → ℕ
+unfoldable pub resultSize : (n : ℕ) → ℕ
 resultSize n = processLineSize * n + lastLineSize
 
 -- A refusal: 1F, number, line (2 bytes).
-unfoldable pub refusalLine : ℕ → ℕ → List ℕ
+unfoldable pub refusalLine : (number line : ℕ) → List ℕ
 refusalLine number line = hexLine (0x1F ∷ number ∷ bytesOf 2 line)
 
 -- The length of a refusal's line, which has 4 bytes.

@@ -10,12 +10,12 @@ use Rattle.formats.specs.Ticket.{readTicket}
 use Rattle.formats.specs.ResultLine.{resultText, resultSize, refusalLine}
 
 -- The result of an instance in a buffer of `room` bytes; refusal 9, of no line, where it does not fit.
-unfoldable pub resultIn : ℕ → Reading Instance → Reading (List ℕ)
+unfoldable pub resultIn : (room : ℕ) → Reading Instance → Reading (List ℕ)
 resultIn room (accepted x) = cond (ltb room (resultSize (x .processes))) (refused 9 0) (accepted (resultText x))
 resultIn room (refused number line) = refused number line
 
 -- What running answers on a text and a buffer of `room` bytes: the result's text, or a refusal, 1 to 9, with its line.
-unfoldable pub running : List ℕ → ℕ → Reading (List ℕ)
+unfoldable pub running : (text : List ℕ) → (room : ℕ) → Reading (List ℕ)
 running text room = resultIn room (readTicket text)
 
 -- What a buffer holds afterwards: the result, and after it what stood there; after a refusal all as it was.

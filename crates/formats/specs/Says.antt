@@ -16,7 +16,7 @@ use Rattle.formats.specs.declared.LineAnswer.the-variants.{Proposal, Cra
 use Rattle.formats.specs.FailureLine.{placesCrash, suitsStep}
 
 -- A line of this kind and of this many bytes.
-unfoldable pub isKind : ℕ → ℕ → List ℕ → Bool
+unfoldable pub isKind : (kind size : ℕ) → List ℕ → Bool
 isKind kind size b = eqb (getD b 0 0) kind && eqb (length b) size
 
 -- 01, n, t.

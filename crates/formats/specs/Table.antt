@@ -22,56 +22,56 @@ textOf (line ∷ lines) = ascii line ++ (10 ∷ []) ++ textOf lines
 unfoldable pub opening : List String
 opening = "010402" ∷ "02010000000A" ∷ "020200000014" ∷ "02030000001E" ∷ "020400000028" ∷ []
 
+-- Case 1's header and proposals with one failure line.
+abbrev pub withFailure : ℕ → (line : String) → (output : List String) → Case
+withFailure number line output = caseOf number (opening ++ (line ∷ "04" ∷ [])) output
+
 -- Case 1: process 1 crashes after one commit.
-unfoldable pub case1 : Case
+abbrev pub case1 : Case
 case1 =
     caseOf 1 ("010402" ∷ "02010000000A" ∷ "020200000014" ∷ "02030000001E" ∷ "020400000028" ∷ "03010102000000000000000001" ∷ "04" ∷ [])
     ("1101020100000000" ∷ "110201020000000A" ∷ "110301020000000A" ∷ "110401010000000A" ∷ "1202010200050003" ∷ [])
 
 -- Case 2: one process.
-unfoldable pub case2 : Case
+abbrev pub case2 : Case
 case2 =
     caseOf 2 ("010100" ∷ "02010000000A" ∷ "04" ∷ [])
     ("110101010000000A" ∷ "1201000100000000" ∷ [])
 
 -- Case 3: case 1 with count 3.
-unfoldable pub case3 : Case
+abbrev pub case3 : Case
 case3 =
-    caseOf 3 (opening ++ ("03010102000000000000000003" ∷ "04" ∷ []))
-    ("1101020100000000" ∷ "110201010000000A" ∷ "110301010000000A" ∷ "110401010000000A" ∷ "1201010100030003" ∷ [])
+    withFailure 3 "03010102000000000000000003" ("1101020100000000" ∷ "110201010000000A" ∷ "110301010000000A" ∷ "110401010000000A" ∷ "1201010100030003" ∷ [])
 
 -- Case 4: process 1 crashes while sending data, which reaches process 2 alone.
-unfoldable pub case4 : Case
+abbrev pub case4 : Case
 case4 =
-    caseOf 4 (opening ++ ("03010101000000000000000200" ∷ "04" ∷ []))
-    ("1101020100000000" ∷ "110201020000000A" ∷ "110301020000000A" ∷ "110401020000000A" ∷ "1202010200030002" ∷ [])
+    withFailure 4 "03010101000000000000000200" ("1101020100000000" ∷ "110201020000000A" ∷ "110301020000000A" ∷ "110401020000000A" ∷ "1202010200030002" ∷ [])
 
 -- Case 5: the same, and it reaches process 4 alone.
-unfoldable pub case5 : Case
+abbrev pub case5 : Case
 case5 =
-    caseOf 5 (opening ++ ("03010101000000000000000800" ∷ "04" ∷ []))
-    ("1101020100000000" ∷ "1102010200000014" ∷ "1103010200000014" ∷ "1104010200000014" ∷ "1202010200030002" ∷ [])
+    withFailure 5 "03010101000000000000000800" ("1101020100000000" ∷ "1102010200000014" ∷ "1103010200000014" ∷ "1104010200000014" ∷ "1202010200030002" ∷ [])
 
 -- Case 6: processes 1 and 2 crash before sending in round 1.
-unfoldable pub case6 : Case
+abbrev pub case6 : Case
 case6 =
     caseOf 6 (opening ++ ("03010100000000000000000000" ∷ "03020100000000000000000000" ∷ "04" ∷ []))
     ("1101020100000000" ∷ "1102020100000000" ∷ "110301030000001E" ∷ "110401030000001E" ∷ "1203020200010001" ∷ [])
 
 -- Case 7: case 1 with an idle failure line of process 4.
-unfoldable pub case7 : Case
+abbrev pub case7 : Case
 case7 =
     caseOf 7 (opening ++ ("03010102000000000000000001" ∷ "03040200000000000000000000" ∷ "04" ∷ []))
     (case1 .output)
 
 -- Case 8: only an idle failure line, of process 3.
-unfoldable pub case8 : Case
+abbrev pub case8 : Case
 case8 =
-    caseOf 8 (opening ++ ("03030200000000000000000000" ∷ "04" ∷ []))
-    ("110101010000000A" ∷ "110201010000000A" ∷ "110301010000000A" ∷ "110401010000000A" ∷ "1201000100030003" ∷ [])
+    withFailure 8 "03030200000000000000000000" ("110101010000000A" ∷ "110201010000000A" ∷ "110301010000000A" ∷ "110401010000000A" ∷ "1201000100030003" ∷ [])
 
 -- Case 9: the bound by speakers met exactly: 42 data and 21 commit messages of 7 speakers.
-unfoldable pub case9 : Case
+abbrev pub case9 : Case
 case9 =
     caseOf 9 ("010A09" ∷ "02010000000A" ∷ "020200000014" ∷ "02030000001E" ∷ "020400000028" ∷ "020500000032" ∷ "02060000003C" ∷ "020700000046"
     ∷ "020800000050" ∷ "02090000005A" ∷ "020A00000064" ∷ "03010102000000000000000003" ∷ "03020202000000000000000003"
@@ -81,7 +81,7 @@ case9 =
     ∷ "1107020700000000" ∷ "1108020100000000" ∷ "1109020100000000" ∷ "110A01010000000A" ∷ "12070907002A0015" ∷ [])
 
 -- Case 10: n = 65: refusal 4, at line 1.
-unfoldable pub case10 : Case
+abbrev pub case10 : Case
 case10 =
     caseOf 10 ("014102" ∷ "02010000000A" ∷ "020200000014" ∷ "02030000001E" ∷ "020400000028" ∷ "04" ∷ [])
     ("1F040001" ∷ [])
@@ -100,7 +100,7 @@ opening64 =
     ∷ "024000000040" ∷ []
 
 -- Case 10's other half: n = 64 passes.
-unfoldable pub case10Passes : Case
+abbrev pub case10Passes : Case
 case10Passes =
     caseOf 10 (opening64 ++ ("04" ∷ []))
     ("1101010100000001" ∷ "1102010100000001" ∷ "1103010100000001" ∷ "1104010100000001" ∷ "1105010100000001" ∷ "1106010100000001"
@@ -116,16 +116,15 @@ case10Passes =
     ∷ "113D010100000001" ∷ "113E010100000001" ∷ "113F010100000001" ∷ "1140010100000001" ∷ "12010001003F003F" ∷ [])
 
 -- Case 11: t = n: refusal 4, at line 1.
-unfoldable pub case11 : Case
+abbrev pub case11 : Case
 case11 =
     caseOf 11 ("010404" ∷ "02010000000A" ∷ "020200000014" ∷ "02030000001E" ∷ "020400000028" ∷ "04" ∷ [])
     ("1F040001" ∷ [])
 
 -- Case 12: process 3, round 2, step 02: refusal 8, at line 6.
-unfoldable pub case12 : Case
+abbrev pub case12 : Case
 case12 =
-    caseOf 12 (opening ++ ("03030202000000000000000000" ∷ "04" ∷ []))
-    ("1F080006" ∷ [])
+    withFailure 12 "03030202000000000000000000" ("1F080006" ∷ [])
 
 -- All of them, in document 01's order; case 10 has two halves.
 unfoldable pub cases : List Case

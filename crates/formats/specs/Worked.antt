@@ -2,27 +2,19 @@
 -- messages ('A round', third paragraph).
 use mathlib.Core.List.{List, [], _∷_, map}
 use mathlib.Core.Path.{_≡_}
-use mathlib.Core.Bool.{cond}
-use Prim.Native.Nat.{ℕ, zero, suc, _+_, _-_, _*_}
+use Prim.Native.Nat.{ℕ, _+_, _-_, _*_}
 use Rattle.consensus.specs.Instance.{Instance}
 use Rattle.coordinator.specs.Run.{runOf, crashesOf}
 use Rattle.coordinator.specs.SpeakerBound.{boundBySpeakers}
-use Rattle.coordinator.specs.Settling.{qualifies}
+use Rattle.coordinator.specs.WorkedRuns.{qualifyingRounds}
 use Rattle.formats.specs.Reading.{Reading, accepted, refused}
 use Rattle.formats.specs.Ticket.{readTicket}
 use Rattle.formats.specs.Table.{Case, textOf, case1, case2, case3, case4, case5, case6, case7, case8, case9}
 use Rattle.formats.specs.FurtherRuns.{furtherRuns}
 
--- The rounds that qualify among those from r on, so many of them.
-unfoldable pub qualifyingFrom : Instance → ℕ → ℕ → List ℕ
-qualifyingFrom x zero r = []
-qualifyingFrom x (suc more) r =
-    let later = qualifyingFrom x more (suc r) in
-    cond (qualifies x r) (r ∷ later) later
-
--- The rounds from 0 to t + 2 that qualify in the run of a ticket as read; a run has at most t + 1.
+-- The rounds that qualify in the run of a ticket as read.
 unfoldable pub qualifyingIn : Reading Instance → List ℕ
-qualifyingIn (accepted x) = qualifyingFrom x (x .resilience + 3) 0
+qualifyingIn (accepted x) = qualifyingRounds x
 qualifyingIn (refused refusal line) = []
 
 -- The claim: the rounds that qualify in cases 1 to 9 and in the further runs (document 01, 'The result': "In case 1 both 1 and 2 qualify").
@@ -46,7 +38,7 @@ boundsOf (accepted x) =
     ∷ []
 boundsOf (refused refusal line) = []
 
--- The claim on case 9: of 10 processes 9 crash and 7 speak, and they send 63 messages, which is the bound (document 01, 'Worked runs':
--- "f 9, speakers 7, data 42, commits 21, sum 63, the bound exactly; document 001 gives 55", by its Theorem 2).
+-- The claim on case 9: of 10 processes 9 crash and 7 speak, and they send 63 messages, which is the bound (document 01, 'Worked runs': "f 9, speakers 7,
+-- data 42, commits 21, sum 63, the bound exactly; document 001 gives 55", by its Theorem 2).
 unfoldable pub Case9MeetsBound : Type 0
 Case9MeetsBound = boundsOf (readTicket (textOf (case9 .ticket))) ≡ 10 ∷ 9 ∷ 7 ∷ 63 ∷ 63 ∷ (2 * 55) ∷ []

@@ -1,4 +1,5 @@
--- Laws of big-endian numbers: one byte more, the bytes of two and of four written out, the number of four bytes, how large a number so many bytes hold, and that a number comes back from its bytes. Assumes nothing.
+-- Laws of big-endian numbers: one byte more, the bytes of two and of four written out, the number of four bytes, how large a number so many bytes hold, and
+-- that a number comes back from its bytes. Assumes nothing.
 use mathlib.Core.List.{List, [], _∷_, _++_, append-nil}
 use mathlib.Core.Path.{_≡_, refl, sym, ap, _∙_}
 use Prim.Native.Nat.{ℕ, zero, suc, _+_, _*_, _/_, _%_, _^_, _<_}
@@ -60,7 +61,8 @@ unfolding number numberFrom
 number-four v w x y = rw zero-add
 
 -- Bytes come back from their number: those after `before`, which come back from `high`.
-from-number : (bs before : List ℕ) (high : ℕ) → Bytes bs → bytesOf (length before) high ≡ before → bytesOf (length before + length bs) (numberFrom high bs) ≡ before ++ bs
+from-number : (bs before : List ℕ) (high : ℕ) → Bytes bs → bytesOf (length before) high ≡ before
+    → bytesOf (length before + length bs) (numberFrom high bs) ≡ before ++ bs
 unfolding numberFrom bytesOf
 from-number [] before high h e = rw (add-zero, append-nil) e
 from-number (b ∷ bs) before high h e =

@@ -1,5 +1,5 @@
--- Laws of `mapFrom`: its length, and what stands at each place and for each number, used wherever states are read process by process;
--- and of `countFrom`: tests that say the same, and the elements above a number. Assumes nothing.
+-- Laws of `mapFrom`: its length, and what stands at each place and for each number, used wherever states are read process by process; and of `countFrom`:
+-- tests that say the same, and the elements above a number. Assumes nothing.
 use mathlib.Core.List.{List, [], _∷_, _++_}
 use mathlib.Core.Path.{_≡_, refl, ap, ap₂, _∙_}
 use mathlib.Core.Bool.{Bool, true, false, cond}

@@ -1,4 +1,4 @@
--- Texts written out in a definition, as lists of bytes.
+-- For the tables of cases alone: texts written out in a definition, as lists of bytes.
 use mathlib.Core.List.{List, [], _∷_}
 use Prim.Native.Nat.{ℕ}
 use Prim.Native.Char.{code}

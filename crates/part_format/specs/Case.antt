@@ -29,19 +29,19 @@ bytesIn text = paired (digitsIn text)
 
 pub data Case : Type 0 where
   -- starting: station, n, t, value and the bytes lent; the answer, and the lent bytes afterwards
-  starting : (p n t v : ℕ) → String → ℕ → String → Case
+  starting : (p n t v : ℕ) → (lent : String) → (answer : ℕ) → (after : String) → Case
   -- speaking: the state and the output; the answer, and the output afterwards (the state is lent to be read alone)
-  speaking : String → String → ℕ → String → Case
+  speaking : (state output : String) → (answer : ℕ) → (after : String) → Case
   -- closing: the state and what was heard; the answer, and the state afterwards
-  closing : String → String → ℕ → String → Case
+  closing : (state heard : String) → (answer : ℕ) → (after : String) → Case
   -- a state that speaking and closing both refuse with this number, before they look at the output or at what was heard
-  refusing : String → ℕ → Case
+  refusing : (state : String) → (answer : ℕ) → Case
 
 -- The answer of speaking and the output afterwards; of closing, and the state afterwards.
-unfoldable pub spoken : List ℕ → List ℕ → List ℕ
+unfoldable pub spoken : (state output : List ℕ) → List ℕ
 spoken state output = speakAnswer state (length output) ∷ speakOutput state output
 
-unfoldable pub closed : List ℕ → List ℕ → List ℕ
+unfoldable pub closed : (state heard : List ℕ) → List ℕ
 closed state heard = closeRefusal state heard ∷ closeState state heard
 
 -- An output with room for both frames, and heard bytes of none of the three forms.
@@ -61,8 +61,8 @@ gives (refusing state answer) =
     spoken (bytesIn state) roomy ∷ spoken (bytesIn state) [] ∷ closed (bytesIn state) [] ∷ closed (bytesIn state) formless ∷ []
 
 -- What the case says.
-unfoldable pub says : Case → List (List ℕ)
-says (starting p n t v lent answer after) = (answer ∷ bytesIn after) ∷ []
-says (speaking state output answer after) = (answer ∷ bytesIn after) ∷ []
-says (closing state heard answer after) = (answer ∷ bytesIn after) ∷ []
-says (refusing state answer) = (answer ∷ roomy) ∷ (answer ∷ []) ∷ (answer ∷ bytesIn state) ∷ (answer ∷ bytesIn state) ∷ []
+unfoldable pub expected : Case → List (List ℕ)
+expected (starting p n t v lent answer after) = (answer ∷ bytesIn after) ∷ []
+expected (speaking state output answer after) = (answer ∷ bytesIn after) ∷ []
+expected (closing state heard answer after) = (answer ∷ bytesIn after) ∷ []
+expected (refusing state answer) = (answer ∷ roomy) ∷ (answer ∷ []) ∷ (answer ∷ bytesIn state) ∷ (answer ∷ bytesIn state) ∷ []

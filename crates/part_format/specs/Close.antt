@@ -41,7 +41,7 @@ heardRefusal (some m) = 0
 heardRefusal none = 12
 
 -- 10 and 11 as for every state, then 12; 0: none.
-unfoldable pub closeRefusal : List ℕ → List ℕ → ℕ
+unfoldable pub closeRefusal : (state heard : List ℕ) → ℕ
 closeRefusal state heard =
     cond (not (eqb (stateRefusal state) 0)) (stateRefusal state) (heardRefusal (heardBy (stateFrom state) heard))
 
@@ -51,6 +51,6 @@ closeOnHeard state (some m) = stateBytes (closedOn (stateFrom state) m)
 closeOnHeard state none = state
 
 -- What the nine bytes hold afterwards.
-unfoldable pub closeState : List ℕ → List ℕ → List ℕ
+unfoldable pub closeState : (state heard : List ℕ) → List ℕ
 closeState state heard =
     cond (eqb (stateRefusal state) 0) (closeOnHeard state (heardBy (stateFrom state) heard)) state

@@ -9,7 +9,7 @@ use Rattle.general.specs.BigEndian.{number, bytesOf}
 use Rattle.coordinator.specs.Message.{Messages, nothing, estimate, estimateAndCommit}
 use Rattle.part_format.specs.PartState.{PartState, isOwnRound}
 
-unfoldable pub dataFrame : ℕ → ℕ → List ℕ
+unfoldable pub dataFrame : (r v : ℕ) → List ℕ
 dataFrame r v = 0x21 ∷ r ∷ bytesOf 4 v
 
 unfoldable pub commitFrame : ℕ → List ℕ
@@ -22,14 +22,14 @@ framesOf r (estimate v) = dataFrame r v
 framesOf r (estimateAndCommit v) = dataFrame r v ++ commitFrame r
 
 -- Six bytes are a data frame of round r; two are a commit frame of it.
-unfoldable pub isDataFrame : ℕ → List ℕ → Bool
+unfoldable pub isDataFrame : (r : ℕ) → List ℕ → Bool
 isDataFrame r b = eqb (length b) 6 && eqb (getD b 0 0) 0x21 && eqb (getD b 1 0) r
 
-unfoldable pub isCommitFrame : ℕ → List ℕ → Bool
+unfoldable pub isCommitFrame : (r : ℕ) → List ℕ → Bool
 isCommitFrame r b = eqb (length b) 2 && eqb (getD b 0 0) 0x22 && eqb (getD b 1 0) r
 
 -- The messages that bytes carry in round r: nothing, data, or data then commit; other bytes carry none.
-unfoldable pub messagesFrom : ℕ → List ℕ → Option Messages
+unfoldable pub messagesFrom : (r : ℕ) → List ℕ → Option Messages
 messagesFrom r b =
     let v = number (take 4 (drop 2 b)) in
     cond (eqb (length b) 0) (some nothing)

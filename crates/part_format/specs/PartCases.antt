@@ -3,7 +3,7 @@
 use mathlib.Core.List.{List, [], _∷_, _++_, map}
 use mathlib.Core.Path.{_≡_}
 use lib.ListN.{length}
-use Rattle.part_format.specs.Case.{Case, starting, speaking, closing, refusing, gives, says}
+use Rattle.part_format.specs.Case.{Case, starting, speaking, closing, refusing, gives, expected}
 
 -- Starting ("writes round 1, mark 00"; refusal 10: "n, t or station outside the limits, or not exactly nine bytes lent. Nothing is written").
 unfoldable pub startCases : List Case
@@ -156,5 +156,5 @@ partCases = startCases ++ speakCases ++ refusedCases ++ closeCases ++ heardCases
 
 -- The claim: every case is what the definitions give, and none is missing (document 01, 'The desk part' and 'Refused calls').
 pub record PartCases : Type 0 where
-  pub given : map gives partCases ≡ map says partCases
+  pub given : map gives partCases ≡ map expected partCases
   pub counted : length partCases ≡ 91

@@ -43,7 +43,7 @@ stateFrom b =
     }
 
 -- n, t and the station within the limits.
-unfoldable pub identityValid : ℕ → ℕ → ℕ → Bool
+unfoldable pub identityValid : (p n t : ℕ) → Bool
 identityValid p n t = withinLimits n t && leb 1 p && leb p n
 
 -- Open or decided: a round from 1 to t + 1 that is not above the station. Rounds over: round = t + 1 < station.

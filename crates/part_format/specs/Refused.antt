@@ -35,7 +35,7 @@ pub record AnswersRefusal (state : List ℕ) (room : ℕ) : Type 0 where
   pub least : 9 ≤ speakAnswer state room
   pub most : speakAnswer state room ≤ 11
 
--- The claim: the one number that speaking answers is the count or the refusal, and which of the two shows by its size
--- (document 01, 'The desk part': "data then commit (8 bytes) in the desk's own round, else no bytes"; 'Refused calls', "Speaking").
+-- The claim: the one number that speaking answers is the count or the refusal, and which of the two shows by its size (document 01, 'The desk part': "data
+-- then commit (8 bytes) in the desk's own round, else no bytes"; 'Refused calls', "Speaking").
 unfoldable pub SpeakAnswersApart : Type 0
 SpeakAnswersApart = (state : List ℕ) (room : ℕ) → AnswersCount state room ⊎ AnswersRefusal state room

@@ -1,5 +1,5 @@
--- The calls of one part, as far as the process's own laws leave them: one that is not open yields nothing and stays as it is;
--- and what a part yields is what its host finds in the buffer. Assumes nothing.
+-- The calls of one part, as far as the process's own laws leave them: one that is not open yields nothing and stays as it is; and what a part yields is
+-- what its host finds in the buffer. Assumes nothing.
 use mathlib.Core.List.{List, []}
 use mathlib.Core.Logic.{_⊎_, inl, inr}
 use mathlib.Core.Path.{_≡_, refl, sym, ap, _∙_}

@@ -122,15 +122,17 @@ module _ (x : Instance) (formed : WellFormed x) where
 
   speaks-taken : (r p : ℕ) (b : List ℕ) → OpenAfter x r p b → speakRefusal b outputRoom ≡ 0
   speaks-taken r p b o =
-      let (v, waiting, same) = open-part x r p b (o .within) (o .marked) (alike-after r (omega arith) p (o .process)) (o .kept) in
-      rw (← same) (open-spoken x formed r p (o .within) (o .process) v waiting)
+      let within : r ≤ x .resilience = omega arith in
+      let (v, waiting, same) = open-part x r p b within (o .marked) (alike-after r (omega arith) p (o .process)) (o .kept) in
+      rw (← same) (open-spoken x formed r p within (o .process) v waiting)
 
   close-taken : (r p : ℕ) (b : List ℕ) → OpenAfter x r p b → closeRefusal b (heard x (suc r) p (partsTo x r)) ≡ 0
   close-taken r p b o =
+      let within : r ≤ x .resilience = omega arith in
       let before : AllAlike r = alike-after r (omega arith) in
-      let (v, waiting, same) = open-part x r p b (o .within) (o .marked) (before p (o .process)) (o .kept) in
-      rw (← same, heard-received r (o .within) before p)
-      (open-after x formed r p (o .within) (o .process) v waiting (heardAt x r p) (received-carried r p) (λ low. received-below _ _ _ p _ low) .0)
+      let (v, waiting, same) = open-part x r p b within (o .marked) (before p (o .process)) (o .kept) in
+      rw (← same, heard-received r within before p)
+      (open-after x formed r p within (o .process) v waiting (heardAt x r p) (received-carried r p) (λ low. received-below _ _ _ p _ low) .0)
 
   pub none-refused : NoneRefused x
   none-refused = record { whenStarted = λ p process. sym (started p process .0); whenSpeaking = speaks-taken; whenClosing = close-taken }

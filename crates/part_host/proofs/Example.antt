@@ -17,6 +17,7 @@ use Rattle.coordinator.specs.Undecided.{isUndecided, anyUndecided}
 use Rattle.coordinator.specs.Count.{dataAt, commitsAt, countIn, speaks, dataIn, commitsIn}
 use Rattle.coordinator.specs.Run.{initial, withRound, runTo, runOf, endOf}
 use Rattle.consensus.specs.Consensus.{IsProcess}
+use Rattle.consensus.specs.FourProcesses.{four, firstCrashes, afterOneCommit}
 use Rattle.part_format.specs.PartState.{stateBytes, stateFrom, identityValid, roundValid, fieldsValid, stateValid, stateRefusal, isOwnRound}
 use Rattle.part_format.specs.Frame.{dataFrame, commitFrame, framesOf, isDataFrame, isCommitFrame, messagesFrom, heardBy}
 use Rattle.part_format.specs.Start.{startRefusal, startState, startBytes}
@@ -27,43 +28,43 @@ use Rattle.part_host.specs.Output.{OutputYielded}
 use Rattle.part_host.specs.Hearing.{bytesReaching, reachFrom, letThrough, heardFrom, heard}
 use Rattle.part_host.specs.Host.{blank, startedParts, partAfter, partsAfter, partsTo, partsOf, endPartOf}
 use Rattle.part_host.specs.DecideAlike.{partState, CrashedAlike, DecideAlike, NoneRefused}
-use Rattle.part_host.specs.Example.{case1Instance, Case1Parts, second, third, ended, frames, buffer, ClaimsSpeak}
+use Rattle.part_host.specs.Example.{Case1Parts, second, third, ended, frames, buffer, ClaimsSpeak}
 
 pub case1-parts : Case1Parts
-unfolding Case1Parts case1Instance number numberFrom bytesOf mapFrom withinLimits faultOf sends receives amongFirst reachAt reachIn crashesIn stateBytes stateFrom identityValid roundValid fieldsValid stateValid stateRefusal isOwnRound dataFrame commitFrame framesOf isDataFrame isCommitFrame messagesFrom startRefusal startState startBytes spokenBy speakRefusal speakYields heardBy stateAfter closedOn closeOnHeard closeState isOpen outputRoom yielded bytesReaching reachFrom letThrough heardFrom heard blank startedParts partAfter partsAfter partsTo partsOf
+unfolding Case1Parts four firstCrashes afterOneCommit number numberFrom bytesOf mapFrom withinLimits faultOf sends receives amongFirst reachAt reachIn crashesIn stateBytes stateFrom identityValid roundValid fieldsValid stateValid stateRefusal isOwnRound dataFrame commitFrame framesOf isDataFrame isCommitFrame messagesFrom startRefusal startState startBytes spokenBy speakRefusal speakYields heardBy stateAfter closedOn closeOnHeard closeState isOpen outputRoom yielded bytesReaching reachFrom letThrough heardFrom heard blank startedParts partAfter partsAfter partsTo partsOf
 case1-parts = refl
 
-process : (p : ℕ) → 1 ≤ p → p ≤ 4 → IsProcess case1Instance p
-unfolding case1Instance
+process : (p : ℕ) → 1 ≤ p → p ≤ 4 → IsProcess afterOneCommit p
+unfolding four firstCrashes afterOneCommit
 process p first last = record { first = first; last = last }
 
 -- ---- how processes end
 
-of-deciding : DecideAlike case1Instance → endPartOf case1Instance 4 ≡ up (4 ∷ 4 ∷ 2 ∷ 1 ∷ 1 ∷ 0 ∷ 0 ∷ 0 ∷ 10 ∷ [])
-unfolding case1Instance mapFrom faultOf arriving sends receives amongFirst reachAt reachIn reach crashesIn stateOf sentBy received afterOutcome after statesAfter isUndecided anyUndecided dataAt commitsAt countIn speaks dataIn commitsIn initial withRound runTo runOf endOf stateBytes bytesOf partState
+of-deciding : DecideAlike afterOneCommit → endPartOf afterOneCommit 4 ≡ up (4 ∷ 4 ∷ 2 ∷ 1 ∷ 1 ∷ 0 ∷ 0 ∷ 0 ∷ 10 ∷ [])
+unfolding four firstCrashes afterOneCommit mapFrom faultOf arriving sends receives amongFirst reachAt reachIn reach crashesIn stateOf sentBy received afterOutcome after statesAfter isUndecided anyUndecided dataAt commitsAt countIn speaks dataIn commitsIn initial withRound runTo runOf endOf stateBytes bytesOf partState
 of-deciding alike = alike .whenDecided 4 1 10 (record { process = process 4 (omega arith) (omega arith); state = refl })
 
-crashed-bytes : (part : Part) → CrashedAlike case1Instance 1 1 part → part ≡ crashedIn 1 (1 ∷ 4 ∷ 2 ∷ 1 ∷ 0 ∷ 0 ∷ 0 ∷ 0 ∷ 10 ∷ [])
-unfolding case1Instance mapFrom stateOf initial runTo stateBytes bytesOf partState
+crashed-bytes : (part : Part) → CrashedAlike afterOneCommit 1 1 part → part ≡ crashedIn 1 (1 ∷ 4 ∷ 2 ∷ 1 ∷ 0 ∷ 0 ∷ 0 ∷ 0 ∷ 10 ∷ [])
+unfolding four firstCrashes afterOneCommit mapFrom stateOf initial runTo stateBytes bytesOf partState
 crashed-bytes part c =
     let first : c .before ≡ 0 = omega arith in
     let began : undecided 10 ≡ undecided (c .estimate) = rw first at (c .undecidedThen) in
     let same : c .estimate ≡ 10 = cc in
     rw same at (c .bytes)
 
-of-crashing : DecideAlike case1Instance → endPartOf case1Instance 1 ≡ crashedIn 1 (1 ∷ 4 ∷ 2 ∷ 1 ∷ 0 ∷ 0 ∷ 0 ∷ 0 ∷ 10 ∷ [])
-unfolding case1Instance mapFrom faultOf arriving sends receives amongFirst reachAt reachIn reach crashesIn stateOf sentBy received afterOutcome after statesAfter isUndecided anyUndecided dataAt commitsAt countIn speaks dataIn commitsIn initial withRound runTo runOf endOf
+of-crashing : DecideAlike afterOneCommit → endPartOf afterOneCommit 1 ≡ crashedIn 1 (1 ∷ 4 ∷ 2 ∷ 1 ∷ 0 ∷ 0 ∷ 0 ∷ 0 ∷ 10 ∷ [])
+unfolding four firstCrashes afterOneCommit mapFrom faultOf arriving sends receives amongFirst reachAt reachIn reach crashesIn stateOf sentBy received afterOutcome after statesAfter isUndecided anyUndecided dataAt commitsAt countIn speaks dataIn commitsIn initial withRound runTo runOf endOf
 of-crashing alike = crashed-bytes _ (alike .whenCrashed 1 1 (process 1 (omega arith) (omega arith)) refl)
 
 -- ---- which calls are taken
 
-of-speaking : NoneRefused case1Instance → speakRefusal second 8 ≡ 0
-unfolding second case1Instance number numberFrom bytesOf mapFrom withinLimits faultOf sends receives amongFirst reachAt reachIn crashesIn stateBytes stateFrom identityValid roundValid fieldsValid stateValid stateRefusal isOwnRound dataFrame commitFrame framesOf isDataFrame isCommitFrame messagesFrom startRefusal startState startBytes spokenBy speakRefusal speakYields heardBy stateAfter closedOn closeOnHeard closeState isOpen outputRoom yielded bytesReaching reachFrom letThrough heardFrom heard blank startedParts partAfter partsAfter partsTo partOf
+of-speaking : NoneRefused afterOneCommit → speakRefusal second 8 ≡ 0
+unfolding second four firstCrashes afterOneCommit number numberFrom bytesOf mapFrom withinLimits faultOf sends receives amongFirst reachAt reachIn crashesIn stateBytes stateFrom identityValid roundValid fieldsValid stateValid stateRefusal isOwnRound dataFrame commitFrame framesOf isDataFrame isCommitFrame messagesFrom startRefusal startState startBytes spokenBy speakRefusal speakYields heardBy stateAfter closedOn closeOnHeard closeState isOpen outputRoom yielded bytesReaching reachFrom letThrough heardFrom heard blank startedParts partAfter partsAfter partsTo partOf
 of-speaking taken =
     taken .whenSpeaking 1 2 second (record { process = process 2 (omega arith) (omega arith); within = omega arith; kept = refl; marked = refl })
 
-of-closing : NoneRefused case1Instance → closeRefusal third frames ≡ 0
-unfolding third frames case1Instance number numberFrom bytesOf mapFrom withinLimits faultOf sends receives amongFirst reachAt reachIn crashesIn stateBytes stateFrom identityValid roundValid fieldsValid stateValid stateRefusal isOwnRound dataFrame commitFrame framesOf isDataFrame isCommitFrame messagesFrom startRefusal startState startBytes spokenBy speakRefusal speakYields heardBy stateAfter closedOn closeOnHeard closeState isOpen outputRoom yielded bytesReaching reachFrom letThrough heardFrom heard blank startedParts partAfter partsAfter partsTo partOf
+of-closing : NoneRefused afterOneCommit → closeRefusal third frames ≡ 0
+unfolding third frames four firstCrashes afterOneCommit number numberFrom bytesOf mapFrom withinLimits faultOf sends receives amongFirst reachAt reachIn crashesIn stateBytes stateFrom identityValid roundValid fieldsValid stateValid stateRefusal isOwnRound dataFrame commitFrame framesOf isDataFrame isCommitFrame messagesFrom startRefusal startState startBytes spokenBy speakRefusal speakYields heardBy stateAfter closedOn closeOnHeard closeState isOpen outputRoom yielded bytesReaching reachFrom letThrough heardFrom heard blank startedParts partAfter partsAfter partsTo partOf
 of-closing taken =
     taken .whenClosing 1 3 third (record { process = process 3 (omega arith) (omega arith); within = omega arith; kept = refl; marked = refl })
 
@@ -89,7 +90,7 @@ unfolding OutputYielded ended buffer number numberFrom bytesOf withinLimits send
 of-refusing found = let above : 8 < 11 = omega arith in found ended buffer (omega arith) .refused above .0
 
 pub claims-speak : ClaimsSpeak
-unfolding case1Instance
+unfolding four firstCrashes afterOneCommit
 claims-speak =
     record {
       ofDeciding = of-deciding;

@@ -1,4 +1,4 @@
--- Demand 2, second half: separate parts, fed the frames that the failure pattern lets through, decide as the processes of the run do.
+-- Demand 2, second half (document 00): separate parts, fed the frames that the failure pattern lets through, decide as the processes of the run do.
 use mathlib.Core.List.{List}
 use mathlib.Core.Path.{_≡_}
 use mathlib.Core.Bool.{true}

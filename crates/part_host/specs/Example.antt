@@ -3,7 +3,7 @@ use mathlib.Core.List.{List, [], _∷_}
 use mathlib.Core.Path.{_≡_}
 use Prim.Native.Nat.{ℕ}
 use lib.ListN.{take, drop}
-use Rattle.consensus.specs.Instance.{Instance, correct, crashes, duringCommits}
+use Rattle.consensus.specs.FourProcesses.{afterOneCommit}
 use Rattle.part_format.specs.Start.{startRefusal}
 use Rattle.part_format.specs.Speak.{speakRefusal, speakAnswer, speakOutput}
 use Rattle.part_format.specs.Close.{closeRefusal}
@@ -12,19 +12,9 @@ use Rattle.part_host.specs.Output.{OutputYielded}
 use Rattle.part_host.specs.Host.{blank, partsOf, endPartOf}
 use Rattle.part_host.specs.DecideAlike.{DecideAlike, NoneRefused}
 
--- n = 4, t = 2; process 1 crashes in round 1 after one commit, which goes to process 4.
-unfoldable pub case1Instance : Instance
-case1Instance =
-    record {
-      processes = 4;
-      resilience = 2;
-      proposals = 10 ∷ 20 ∷ 30 ∷ 40 ∷ [];
-      pattern = crashes 1 (duringCommits 1) ∷ correct ∷ correct ∷ correct ∷ [];
-    }
-
 -- Process 1's part is still in round 1; process 4's decided in round 1 and the others in round 2, all on 10.
 unfoldable pub Case1Parts : Type 0
-Case1Parts = partsOf case1Instance
+Case1Parts = partsOf afterOneCommit
     ≡ crashedIn 1 (1 ∷ 4 ∷ 2 ∷ 1 ∷ 0 ∷ 0 ∷ 0 ∷ 0 ∷ 10 ∷ [])
     ∷ up (2 ∷ 4 ∷ 2 ∷ 2 ∷ 1 ∷ 0 ∷ 0 ∷ 0 ∷ 10 ∷ [])
     ∷ up (3 ∷ 4 ∷ 2 ∷ 2 ∷ 1 ∷ 0 ∷ 0 ∷ 0 ∷ 10 ∷ [])
@@ -53,13 +43,13 @@ buffer = 1 ∷ 2 ∷ 3 ∷ 4 ∷ 5 ∷ 6 ∷ 7 ∷ 8 ∷ 9 ∷ 10 ∷ 11 ∷ 12 
 -- The claim: from each claim on parts follows what it says of case 1 (document 01, 'Worked runs'), since its premises are met there.
 pub record ClaimsSpeak : Type 0 where
   -- process 4 decides in round 1
-  pub ofDeciding : DecideAlike case1Instance → endPartOf case1Instance 4 ≡ up (4 ∷ 4 ∷ 2 ∷ 1 ∷ 1 ∷ 0 ∷ 0 ∷ 0 ∷ 10 ∷ [])
+  pub ofDeciding : DecideAlike afterOneCommit → endPartOf afterOneCommit 4 ≡ up (4 ∷ 4 ∷ 2 ∷ 1 ∷ 1 ∷ 0 ∷ 0 ∷ 0 ∷ 10 ∷ [])
   -- process 1 crashes in round 1
-  pub ofCrashing : DecideAlike case1Instance → endPartOf case1Instance 1 ≡ crashedIn 1 (1 ∷ 4 ∷ 2 ∷ 1 ∷ 0 ∷ 0 ∷ 0 ∷ 0 ∷ 10 ∷ [])
+  pub ofCrashing : DecideAlike afterOneCommit → endPartOf afterOneCommit 1 ≡ crashedIn 1 (1 ∷ 4 ∷ 2 ∷ 1 ∷ 0 ∷ 0 ∷ 0 ∷ 0 ∷ 10 ∷ [])
   -- process 2 starts, and speaks in round 2; process 3 closes it
-  pub ofStarting : NoneRefused case1Instance → startRefusal 2 4 2 blank ≡ 0
-  pub ofSpeaking : NoneRefused case1Instance → speakRefusal second 8 ≡ 0
-  pub ofClosing : NoneRefused case1Instance → closeRefusal third frames ≡ 0
+  pub ofStarting : NoneRefused afterOneCommit → startRefusal 2 4 2 blank ≡ 0
+  pub ofSpeaking : NoneRefused afterOneCommit → speakRefusal second 8 ≡ 0
+  pub ofClosing : NoneRefused afterOneCommit → closeRefusal third frames ≡ 0
   -- process 2 speaks into the buffer: eight bytes at its front, four behind them
   pub ofCount : OutputYielded → speakAnswer second 12 ≡ 8
   pub ofFront : OutputYielded → take 8 (speakOutput second buffer) ≡ frames

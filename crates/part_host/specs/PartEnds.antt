@@ -1,4 +1,5 @@
--- How processes end by the nine bytes of their own parts. Of these ends demand 3 is claimed too, in the words of protocol's Consensus.
+-- How processes end by the nine bytes of their own parts (document 01, 'The desk part'). Of these ends demand 3 is claimed too, in the words of
+-- consensus/specs/Consensus.
 use mathlib.Core.List.{map}
 use Prim.Native.Nat.{ℕ, suc}
 use mathlib.Core.Bool.{cond}

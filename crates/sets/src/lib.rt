@@ -40,7 +40,7 @@ pub fn is_member(p: u8, set: u64) -> bool
 
 // How many processes are in a set: the count of ones is the length of the list of members.
 pub fn size(set: u64) -> u8
-    ensures { λ k. ⌜ k ≡ length (membersTo 64 set) ⌝ }
+    ensures { λ size. ⌜ size ≡ length (membersTo 64 set) ⌝ }
 {
     u64::count_ones(set) as u8
 }

@@ -37,7 +37,7 @@ pub fn places_crash(n: u8, t: u8, last: u8, l: FailureLine) -> bool
     if t < l.round - 1 {
         return false;
     }
-    l.step <= 2
+    l.step <= consensus::DURING_COMMITS
 }
 
 // A set of processes all above p and at most n.
@@ -58,7 +58,7 @@ pub fn suits_step(n: u8, l: FailureLine) -> bool
     requires { ⌜ (1 ≤ l .process) × (l .process ≤ n) × (n ≤ 64) ⌝ }
     ensures { λ r. ⌜ r ≡ suitsStep n l ⌝ }
 {
-    if l.step == 0 {
+    if l.step == consensus::BEFORE_SENDING {
         if l.reached != 0 {
             return false;
         }
@@ -67,7 +67,7 @@ pub fn suits_step(n: u8, l: FailureLine) -> bool
     if l.round != l.process {
         return false;
     }
-    if l.step == 1 {
+    if l.step == consensus::DURING_DATA {
         if l.count != 0 {
             return false;
         }

@@ -19,7 +19,8 @@ use Rattle.formats.specs.declared.HeaderAnswer.{HeaderAnswer}
 use Rattle.formats.specs.declared.LineAnswer.{LineAnswer}
 use Rattle.formats.specs.declared.LineAnswer.the-variants.{Proposal, Crash, End, Refused}
 use Rattle.lines.specs.Words.{lineBytes}
-use Rattle.ticket_lines.proofs.Fields.{length-line, end-kind, header-kind, header-n, header-t, proposal-kind, proposal-station, proposal-value, failure-kind, failure-station, failure-round, failure-step, failure-set, failure-count}
+use Rattle.ticket_lines.proofs.Fields.{length-line, end-kind, header-kind, header-n, header-t, proposal-kind, proposal-station, proposal-value}
+use Rattle.ticket_lines.proofs.Fields.{failure-kind, failure-station, failure-round, failure-step, failure-set, failure-count}
 
 -- Whether a line is of a kind.
 module _ (kind wanted size head tail : ℕ) where
@@ -87,7 +88,12 @@ module _ (n count size head tail : ℕ) (six : size ≡ 6) where
     unfolding proposalSays
     proposal-other-station h =
         let other : tail / 4294967296 % 256 ≡ suc count → ⊥ = λ e. h (omega arith) in
-        rw (six, of-kind 2 6 6 head tail (tail / 1099511627776 % 256) (proposal-kind head tail) refl kind, proposal-station head tail, ne-eqb (tail / 4294967296 % 256) (suc count) other)
+        rw (
+          six,
+          of-kind 2 6 6 head tail (tail / 1099511627776 % 256) (proposal-kind head tail) refl kind,
+          proposal-station head tail,
+          ne-eqb (tail / 4294967296 % 256) (suc count) other,
+        )
 
     pub proposal-next : tail / 4294967296 % 256 ≡ count + 1 → (answer : LineAnswer) → answer ≡ Proposal count (tail % 4294967296) (afterProposal n count)
         → answer ≡ proposalSays n count (lineBytes size head tail)

@@ -1,4 +1,4 @@
--- `transitions::interrupted` meets its contract: one law for each answer. Assumes nothing.
+-- `interrupted` meets its contract: one law for each answer. Assumes nothing.
 use mathlib.Core.Path.{refl, _∙_}
 use native.Mathlib.Omega.{arith}
 use borrow.Author.Needs.{needs}
@@ -19,7 +19,7 @@ returns-2 : tie.Need-returns-2
 returns-2 c =
     let own = c .before .before in
     spoken _ _ _ _ refl _ _ _ (own .only .ensures ∙ only-set _ _ (omega arith) (omega arith))
-    (some-data _ _ _ _ _ _ (own .before .pre .allowed) (omega arith)) (no-commit-yet _ _ _ _ _ (omega arith))
+    (some-data _ _ _ _ _ (own .before .pre .3) (omega arith)) (no-commit-yet _ _ _ _ _ (omega arith))
 
 above-requires : tie.Need-above-requires
 above-requires c κs = search needs
@@ -27,12 +27,12 @@ above-requires c κs = search needs
 sub-above : tie.Need-sub-above
 sub-above c =
     let start = c .before .before .before .before in
-    omega (arith, count-allowed _ _ _ _ _ _ (start .pre .allowed) (search needs) (search needs))
+    omega (arith, count-allowed _ _ _ _ _ (start .pre .3) (search needs) (search needs))
 
 above-requires-2 : tie.Need-above-requires-2
 above-requires-2 c κs =
     let start = c .before .before .before .before in
-    let few = count-allowed _ _ _ _ _ _ (start .pre .allowed) (search needs) (search needs) in
+    let few = count-allowed _ _ _ _ _ (start .pre .3) (search needs) (search needs) in
     (omega arith, omega arith, omega arith)
 
 returns-3 : tie.Need-returns-3
@@ -40,7 +40,7 @@ returns-3 c =
     let own = c .before .before .before .before in
     spoken _ _ _ _ refl _ _ _ (own .only .ensures ∙ only-set _ _ (omega arith) (omega arith))
     (c .before .above .ensures ∙ all-data _ _ _ _ _ (search needs) (search needs))
-    (c .above2 .ensures ∙ some-commits _ _ _ _ _ _ (own .before .pre .allowed) (search needs) (search needs))
+    (c .above2 .ensures ∙ some-commits _ _ _ _ _ (own .before .pre .3) (search needs) (search needs))
 
 pub interrupted-spec : {M : Type 1} → statement M
 interrupted-spec =

@@ -1,4 +1,4 @@
--- `transitions::sending` meets its contract: one law for each answer. Assumes nothing.
+-- `sending` meets its contract: one law for each answer. Assumes nothing.
 use mathlib.Core.Path.{sym, _∙_}
 use native.Mathlib.Omega.{arith}
 use borrow.Author.Needs.{needs}

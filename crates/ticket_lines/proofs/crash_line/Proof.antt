@@ -25,7 +25,8 @@ suits-step-requires c κs =
 returns-3 : tie.Need-returns-3
 returns-3 c =
     let passed = c .before .before in
-    sym (crash-unsuited _ _ _ _ _ (omega arith) _ (passed .before .before .places-crash .ensures) (passed .if2 .left) _ (c .before .suits-step .ensures) (c .if3 .taken))
+    let placed = passed .before .before in
+    sym (crash-unsuited _ _ _ _ _ (omega arith) _ (placed .places-crash .ensures) (passed .if2 .left) _ (c .before .suits-step .ensures) (c .if3 .taken))
 
 add-counted : tie.Need-add-counted
 add-counted c = search needs
@@ -33,7 +34,8 @@ add-counted c = search needs
 returns-4 : tie.Need-returns-4
 returns-4 c =
     let passed = c .before .before in
-    crash-next _ _ _ _ _ (omega arith) _ (passed .before .before .places-crash .ensures) (passed .if2 .left) _ (c .before .suits-step .ensures) (c .if3 .left)
+    let placed = passed .before .before in
+    crash-next _ _ _ _ _ (omega arith) _ (placed .places-crash .ensures) (passed .if2 .left) _ (c .before .suits-step .ensures) (c .if3 .left)
 
 pub crash-line-spec : {M : Type 1} → statement M
 crash-line-spec =

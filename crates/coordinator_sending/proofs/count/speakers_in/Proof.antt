@@ -1,4 +1,4 @@
--- `transitions::count::speakers_in` meets its contract. Assumes nothing.
+-- `count::speakers_in` meets its contract. Assumes nothing.
 use mathlib.Core.Path.{sym, _∙_}
 use borrow.Author.Needs.{needs}
 use Rattle.coordinator_sending.proofs.count.speakers_in.Statement.{statement}

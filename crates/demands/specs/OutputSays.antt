@@ -27,7 +27,7 @@ abbrev pub valueIn : List ℕ → ℕ
 valueIn b = number (drop 4 b)
 
 -- How process p ended by the bytes of its line: with end 01 it decided; with end 02, and 0 for a value, it crashed.
-unfoldable pub endIn : ℕ → List ℕ → Option State
+unfoldable pub endIn : (p : ℕ) → List ℕ → Option State
 endIn p b =
     cond (isProcessLine p 1 b) (some (decided (roundIn b) (valueIn b)))
     (cond (isProcessLine p 2 b && eqb (valueIn b) 0) (some (crashed (roundIn b)))
@@ -63,15 +63,15 @@ countsFrom (bytes b) = countsIn b
 countsFrom noLine = none
 
 -- Line k of an output, counted from 0. The lines of a result come first, and what stands after them changes none of them.
-unfoldable pub lineAt : List ℕ → ℕ → Line
+unfoldable pub lineAt : (out : List ℕ) → (k : ℕ) → Line
 lineAt out k = getD (linesOf out) k noLine
 
 -- How process p ended: the p-th line is its station line.
-unfoldable pub endSaid : List ℕ → ℕ → Option State
+unfoldable pub endSaid : (out : List ℕ) → (p : ℕ) → Option State
 endSaid out p = endFrom p (lineAt out (p - 1))
 
 -- The counts of a result of n processes: line n + 1 is the last line.
-unfoldable pub countsSaid : List ℕ → ℕ → Option Counts
+unfoldable pub countsSaid : (out : List ℕ) → (n : ℕ) → Option Counts
 countsSaid out n = countsFrom (lineAt out n)
 
 -- What the first line says if it is a refusal's: 1F, number, line (2 bytes).
@@ -87,7 +87,7 @@ unfoldable pub refusalSaid : List ℕ → Option Refusal
 refusalSaid out = refusalFrom (lineAt out 0)
 
 -- The bytes say that the processes of the instance end so, and that this was counted.
-pub record Says (x : Instance) (out : List ℕ) (ends : ℕ → State) (counts : Counts) : Type 0 where
+pub record OutputSays (x : Instance) (out : List ℕ) (ends : ℕ → State) (counts : Counts) : Type 0 where
   pub states : (p : ℕ) → IsProcess x p → endSaid out p ≡ some (ends p)
   pub last : countsSaid out (x .processes) ≡ some counts
 
