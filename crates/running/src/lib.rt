@@ -28,10 +28,10 @@ pub enum SettleAnswer {
 
 // Runs an instance, of which all but the values is lent, and writes its result to the front of a buffer that has room for it.
 fn write_run<'a>(
-    out: &mut [u8],
     n: u8,
     t: u8,
     values: [u32; 64],
+    out: &mut [u8],
     crash_rounds: &'a [u8; 64],
     steps: &'a [u8; 64],
     reached: &'a [u64; 64],
@@ -87,7 +87,7 @@ fn run_rest(text: &[u8], n: u8, t: u8, at: usize, out: &mut [u8]) -> RunAnswer
     if out.len() < size {
         return RunAnswer::Refused(9, 0);
     }
-    write_run(out, n, t, values, &crash_rounds, &steps, &reached, &counts);
+    write_run(n, t, values, out, &crash_rounds, &steps, &reached, &counts);
     RunAnswer::Written(size)
 }
 

@@ -45,19 +45,20 @@ pub fn read_header(text: &[u8]) -> HeaderRead
         return HeaderRead::Refused(3, 1);
     }
     let ahead = reader::read_line(text, 0);
-    let line = ahead.line;
+    let rest = ahead.at;
+    let first = ahead.line;
     let LineRead::Line {
         size,
         head,
         tail,
         ..
-    } = line
+    } = first
     else {
         return HeaderRead::Refused(2, 1);
     };
     let answer = ticket_lines::header_line(size, head, tail);
     match answer {
-        HeaderAnswer::Limits(n, t) => HeaderRead::Limits(n, t, ahead.at),
+        HeaderAnswer::Limits(n, t) => HeaderRead::Limits(n, t, rest),
         HeaderAnswer::Refused(number) => HeaderRead::Refused(number, 1),
     }
 }
@@ -154,9 +155,9 @@ pub fn read(text: &[u8]) -> TicketRead
     match header {
         HeaderRead::Limits(n, t, at) => {
             let mut values = [0u32; 64];
-            let mut crash_rounds = [0u8; 64];
+            let mut rounds = [0u8; 64];
             let mut steps = [0u8; 64];
-            let mut reached = [0u64; 64];
+            let mut sets = [0u64; 64];
             let mut counts = [0u8; 64];
             let answer = read_rest(
                 text,
@@ -164,18 +165,18 @@ pub fn read(text: &[u8]) -> TicketRead
                 t,
                 at,
                 &mut values,
-                &mut crash_rounds,
+                &mut rounds,
                 &mut steps,
-                &mut reached,
+                &mut sets,
                 &mut counts,
             );
             let table = InstanceTable {
                 n,
                 t,
                 values,
-                crash_rounds,
+                crash_rounds: rounds,
                 steps,
-                reached,
+                reached: sets,
                 counts,
             };
             TicketRead { answer, table }

@@ -50,7 +50,7 @@ use denote.Triple.Walked.{says, Stays, stay-ref, walkOf, goes-ref, Walks, ends-a
 use denote.Triple.Clauses.{ensured, lasts}
 use Rattle.lines.specs.declared.LineRead.{LineRead}
 use Rattle.lines.specs.Read.{readAt}
-use Rattle.reader.specs.Advance.{placeBehind, readerBehind}
+use Rattle.reader.specs.Advance.{placeBehind}
 use Rattle.reader.specs.declared.LineReader.{LineReader}
 use Rattle.lines.proofs.LineRead as Answer
 use Rattle.lines.proofs.LineRead.Laws as Answer′
@@ -161,7 +161,8 @@ module _ {M : Type 1} (𝓤 : URA M) (H : Heap 𝓤) (A : Atoms 𝓤) (W : Given
       use1 W (given (mach h ∷ [] ≡ mach h ∷ []) (‵ (all-own (D κ′ .parts) (L κ′) fields))) (own-open 𝓤 H A W (D κ′) (L κ′) fields (mach h)) $ learn ! (λ _.
       use1 W (‵ (ownAt (D κ′ .parts) (L κ′) 0 (h .text)) ⊛ ‵ (rest (D κ′ .parts) (L κ′) 0 fields)) (own-out 𝓤 H A W (D κ′ .parts) (L κ′) 0 fields) $ split ! $
       -- [what text owns; what at owns; what the struct owns; the token]
-      move ! (1 ∷ []) $ drop ! $ nothing ! $ owned ! usize (Is usize) (uint-makes 𝓤 H A W w64) (h .at) _ (refl, fits) $ fjoin ! $ move ! (1 ∷ 0 ∷ []) $ fjoin ! $
+      move ! (1 ∷ []) $ drop ! $ nothing ! $ owned ! usize (Is usize) (uint-makes 𝓤 H A W w64) (h .at) _ (refl, fits) $ fjoin ! $ move ! (1 ∷ 0 ∷ []) $
+      fjoin ! $
       move ! (2 ∷ 0 ∷ []) $ use2 W (raw (ReadAt 𝓤 H A at-mem run .pre to-read)) read-asked $ frame ! $ done !)
 
   -- the line is Copy: `place_behind` takes a copy
@@ -174,7 +175,8 @@ module _ {M : Type 1} (𝓤 : URA M) (H : Heap 𝓤) (A : Atoms 𝓤) (W : Given
       nothing ! $ use2 W (raw (PlaceBehind 𝓤 H A at-mem run .pre (to-behind line u))) (behind-asked line u) $ frame ! $ done !
 
   -- of a callee's `ensured`, the clause alone: it has no `&mut`, so what is said of last values is dropped
-  read-said : (line : LineRead) → ent 𝓤 (ensured 𝓤 H A read-at.ended (read-at.clauses 𝓤 H A at-mem run) (κ′, tt) (h .text, (h .at, tt)) tt line) (fact 𝓤 (line ≡ found))
+  read-said : (line : LineRead) → ent 𝓤 (ensured 𝓤 H A read-at.ended (read-at.clauses 𝓤 H A at-mem run) (κ′, tt) (h .text, (h .at, tt)) tt line)
+      (fact 𝓤 (line ≡ found))
   read-said line = exE 𝓤 _ (λ ws. snd∗ 𝓤 (sem 𝓤 H A (lasts read-at.ended (κ′, tt) (h .text, (h .at, tt)) ws)) (fact 𝓤 (line ≡ found)))
 
   behind-said : (line : LineRead) (n : ℕ)
@@ -188,10 +190,12 @@ module _ {M : Type 1} (𝓤 : URA M) (H : Heap 𝓤) (A : Atoms 𝓤) (W : Given
       by ! (own-put 𝓤 H A W (D κ′) (L κ′) 1 fields n (mach h))
 
   exits : (line : LineRead) (u : Val) (n : ℕ) → line ≡ found → n ≡ placeBehind line (h .at)
-      → ent 𝓤 (⋆ 𝓤 H A (‵ (fobs γ (B κ′ .coded .code (moved n))) ∷ ‵ (fbor κ (Body (mem (B κ′)) b o γ)) ∷ ‵ (flft κ q) ∷ ‵ (OwnLine line u) ∷ (‵ (flft κ′ q′) ⊛ ‵ ftrue) ∷ []))
+      → ent 𝓤 (⋆ 𝓤 H A (‵ (fobs γ (B κ′ .coded .code (moved n))) ∷ ‵ (fbor κ (Body (mem (B κ′)) b o γ)) ∷ ‵ (flft κ q) ∷ ‵ (OwnLine line u) ∷
+      (‵ (flft κ′ q′) ⊛ ‵ ftrue) ∷ []))
       (Post u)
   exits line u n e g =
-      qed W (‵ (fobs γ (B κ′ .coded .code (moved n))) ∷ ‵ (fbor κ (Body (mem (B κ′)) b o γ)) ∷ ‵ (flft κ q) ∷ ‵ (OwnLine line u) ∷ (‵ (flft κ′ q′) ⊛ ‵ ftrue) ∷ []) ∵
+      qed W (‵ (fobs γ (B κ′ .coded .code (moved n))) ∷ ‵ (fbor κ (Body (mem (B κ′)) b o γ)) ∷ ‵ (flft κ q) ∷ ‵ (OwnLine line u) ∷
+      (‵ (flft κ′ q′) ⊛ ‵ ftrue) ∷ []) ∵
       suffices ! _
       (ends-at 𝓤 H A next.ended stayed (next.clauses 𝓤 H A at-mem run) W (((κ, (κ′, tt)), (q, (q′, tt)), bounds, x, vals), tt) u line (moved n, tt) (tt, tt)) $
       says ! (e, ap moved g) $ move ! (2 ∷ 4 ∷ []) $ join ! $ frame ! $ feqI ! (List Val) (vptr b o ∷ []) (vptr b o ∷ []) refl $ fjoin3 ! $
@@ -201,10 +205,13 @@ module _ {M : Type 1} (𝓤 : URA M) (H : Heap 𝓤) (A : Atoms 𝓤) (W : Given
       (known-behind : Triple 𝓤 (C #reader·place-behind) (PlaceBehind 𝓤 H A at-mem run)) where
     walk : ent 𝓤 (onEntry 𝓤 H A next.signature (κ, (κ′, tt)) (q, (q′, tt)) x vals) (WpFn 𝓤 H C Λ code.function (vptr b o ∷ []) Post)
     walk =
-        qed W ((‵ (flft κ q) ⊛ ‵ (flft κ′ q′) ⊛ ‵ ftrue) ∷ ‵ (owns (MutRef (named 0) κ (B κ′) ∷ []) x vals) ∷ []) ∵ enter ! C Λ code.function (vptr b o ∷ []) _ $
-        alloc1 ! (λ l₀. alloc1 ! (λ l₁. alloc1 ! (λ l₂. alloc1 ! (λ l₃. alloc1 ! (λ l₄. alloc1 ! (λ l₅. alloc0 ! $ params1 ! $ pass1 ! (init ! 8 refl (tt, tt)) $ pass0 ! $
+        qed W ((‵ (flft κ q) ⊛ ‵ (flft κ′ q′) ⊛ ‵ ftrue) ∷ ‵ (owns (MutRef (named 0) κ (B κ′) ∷ []) x vals) ∷ []) ∵
+        enter ! C Λ code.function (vptr b o ∷ []) _ $
+        alloc1 ! (λ l₀. alloc1 ! (λ l₁. alloc1 ! (λ l₂. alloc1 ! (λ l₃. alloc1 ! (λ l₄. alloc1 ! (λ l₅. alloc0 ! $ params1 ! $
+        pass1 ! (init ! 8 refl (tt, tt)) $ pass0 ! $
         move ! (13 ∷ []) $ fsplit ! $ fsplit3 ! $ drop ! $ move ! (15 ∷ []) $ split ! $ move ! (2 ∷ 3 ∷ 0 ∷ []) $
-        opens ! tt (B κ′) {h = h} b o (λ vs. spelt ! (B κ′) (Is (B κ′)) (shows 𝓤 H A (B κ′)) (LL.vals (D κ′) (L κ′)) (LL.tells (D κ′) (L κ′)) fullShare h vs b o $
+        opens ! tt (B κ′) {h = h} b o
+        (λ vs. spelt ! (B κ′) (Is (B κ′)) (shows 𝓤 H A (B κ′)) (LL.vals (D κ′) (L κ′)) (LL.tells (D κ′) (L κ′)) fullShare h vs b o $
         use1 W (‵ (fat fullShare (Reader′.mir erased) b o (mach h))) (W .laws .raw-at fullShare (Reader′.mir erased) b o (mach h)) $
         move ! (1 ∷ []) $ peeks ! (B κ′) (Is (B κ′)) (shows 𝓤 H A (B κ′)) h (mach h ∷ []) (λ was. move ! (1 ∷ 0 ∷ []) $
         -- [the struct's cell; what it owns; the open borrow; obs; auth; 'a's token; …; _5; …; _4; …; _3; …; _2; …; _1; …; room for _0; …]
@@ -213,34 +220,43 @@ module _ {M : Type 1} (𝓤 : URA M) (H : Heap 𝓤) (A : Atoms 𝓤) (W : Given
         assigns ! (of-opd ! (load ! (from ! (hop ! (look ! 15 refl) (fld ! refl (stop !)))) (look-in ! 0 (sub ! 0 refl (whole !))))) (from ! (stop !))
         (init ! 7 refl (tt, LL.lawful (D κ′) (L κ′) 𝓤 H A W .typed h _ was .0 .1 .0)) $
         move ! (5 ∷ 1 ∷ []) $ use2 W (raw (ReadAt 𝓤 H A at-mem run .pre to-read) ⊛ ‵ (Own h)) (goes-read (was .1 .1 .1 .0 .1)) $ split ! $
-        calls-at ! fm (ReadAt 𝓤 H A at-mem run) known-read to-read (and-then ! (load ! (from ! (stop !)) (look ! 7 refl)) (and-then ! (load ! (from ! (stop !)) (look ! 13 refl)) (no-more !))) (λ u.
+        calls-at ! fm (ReadAt 𝓤 H A at-mem run) known-read to-read
+        (and-then ! (load ! (from ! (stop !)) (look ! 7 refl)) (and-then ! (load ! (from ! (stop !)) (look ! 13 refl)) (no-more !))) (λ u.
         use1 W (later (some (λ (line : LineRead). ((‵ (flft κ′ q′) ⊛ ‵ ftrue) ⊛ ‵ (OwnLine line u))
-        ⊛ raw (ensured 𝓤 H A read-at.ended (read-at.clauses 𝓤 H A at-mem run) (κ′, tt) (h .text, (h .at, tt)) tt line)))) (id⊢ 𝓤 _) $ await ! tt $ pick ! (λ line.
+        ⊛ raw (ensured 𝓤 H A read-at.ended (read-at.clauses 𝓤 H A at-mem run) (κ′, tt) (h .text, (h .at, tt)) tt line)))) (id⊢ 𝓤 _) $ await ! tt $
+        pick ! (λ line.
         split ! $ move ! (1 ∷ []) $ use1 W (raw (fact 𝓤 (line ≡ found))) (read-said line) $ heard ! (line ≡ found) (λ e. split ! $ move ! (1 ∷ []) $
         -- [the line; the token; what the struct owns; its cell; the open borrow; obs; auth; …; _5; …; _4; …; room for _3; …; _2; …; _1; …; room for _0; …]
         peeks ! Answer.the-row (Is Answer.the-row) (shows 𝓤 H A Answer.the-row) line (u ∷ []) (λ is.
         land ! (from ! (stop !)) (init ! 12 refl (EL.lawful Answer.the-type Answer′.the-laws 𝓤 H A W tt .typed line _ is .0)) $
         use1 W (raw (PlaceBehind 𝓤 H A at-mem run .pre (to-behind line u)) ⊛ ‵ (OwnLine line u)) (goes-behind line u (was .1 .1 .1 .0 .1)) $ split ! $
-        calls-at ! fm (PlaceBehind 𝓤 H A at-mem run) known-behind (to-behind line u) (and-then ! (load ! (from ! (stop !)) (look ! 13 refl)) (and-then ! (load ! (from ! (stop !)) (look ! 15 refl)) (no-more !))) (λ w.
+        calls-at ! fm (PlaceBehind 𝓤 H A at-mem run) known-behind (to-behind line u)
+        (and-then ! (load ! (from ! (stop !)) (look ! 13 refl)) (and-then ! (load ! (from ! (stop !)) (look ! 15 refl)) (no-more !))) (λ w.
         use1 W (later (some (λ (n : ℕ). (‵ ftrue ⊛ ‵ (usize .own n (w ∷ [])))
         ⊛ raw (ensured 𝓤 H A place-behind.ended (place-behind.clauses 𝓤 H A at-mem run) tt (line, (h .at, tt)) tt n)))) (id⊢ 𝓤 _) $ await ! tt $ pick ! (λ n.
-        split ! $ move ! (1 ∷ []) $ use1 W (raw (fact 𝓤 (n ≡ placeBehind line (h .at)))) (behind-said line n) $ heard ! (n ≡ placeBehind line (h .at)) (λ g. split ! $ drop ! $
-        -- [the place; the line; the token; what the struct owns; its cell; the open borrow; obs; auth; …; _5; …; room for _4; …; _3; …; _2; …; _1; …; room for _0; …]
+        split ! $ move ! (1 ∷ []) $ use1 W (raw (fact 𝓤 (n ≡ placeBehind line (h .at)))) (behind-said line n) $
+        heard ! (n ≡ placeBehind line (h .at)) (λ g. split ! $ drop ! $
+        -- [the place; the line; the token; what the struct owns; its cell; the open borrow; obs; auth; …; _5; …; room for _4; …; _3; …; _2; …; _1; …;
+        -- room for _0; …]
         peeks ! usize (Is usize) (shows 𝓤 H A usize) n (w ∷ []) (λ fit.
         land ! (from ! (stop !)) (init ! 11 refl (uint-lawful 𝓤 H A W w64 .typed n _ fit .0)) $
         rewrite ! 11 (λ (z : Val). ‵ (fat fullShare (tyInt w64) l₄ 0 z)) (ap only (fit .0)) refl $ drop ! $
-        assigns ! (of-opd ! (load ! (from ! (stop !)) (look ! 10 refl))) (from ! (hop ! (look ! 16 refl) (fld ! refl (stop !)))) (store-in ! 3 (sub ! 1 refl (whole !)) (tt, record { fits = fit .1 })) $
-        assigns ! (of-opd ! (load ! (from ! (stop !)) (look ! 12 refl))) (from ! (stop !)) (init ! 18 refl (EL.lawful Answer.the-type Answer′.the-laws 𝓤 H A W tt .typed line _ is .0)) $
+        assigns ! (of-opd ! (load ! (from ! (stop !)) (look ! 10 refl))) (from ! (hop ! (look ! 16 refl) (fld ! refl (stop !))))
+        (store-in ! 3 (sub ! 1 refl (whole !)) (tt, record { fits = fit .1 })) $
+        assigns ! (of-opd ! (load ! (from ! (stop !)) (look ! 12 refl))) (from ! (stop !))
+        (init ! 18 refl (EL.lawful Answer.the-type Answer′.the-laws 𝓤 H A W tt .typed line _ is .0)) $
         -- the struct is put together again at the new place, and the borrow is closed
         move ! (2 ∷ []) $ use1 W (‵ (Own (moved n))) (again n (fit .1)) $
-        move ! (3 ∷ []) $ use1 W (‵ (cellAt fullShare (B κ′ .mir) (mach (moved n) ∷ []) b o)) (W .laws .at-raw fullShare (Reader′.mir erased) b o (mach (moved n))) $
+        move ! (3 ∷ []) $ use1 W (‵ (cellAt fullShare (B κ′ .mir) (mach (moved n) ∷ []) b o))
+        (W .laws .at-raw fullShare (Reader′.mir erased) b o (mach (moved n))) $
         move ! (0 ∷ 1 ∷ 4 ∷ 5 ∷ 6 ∷ []) $ closes ! tt (B κ′) (moved n) (mach (moved n) ∷ []) b o $
         returns ! (look ! 16 refl) $ forget ! 6 refl $ forget ! 8 refl $ forget ! 10 refl $ forget ! 12 refl $ forget ! 14 refl $ forget ! 16 refl $
         move ! (16 ∷ 17 ∷ []) $ free1 ! $ move ! (14 ∷ 15 ∷ []) $ free1 ! $ move ! (12 ∷ 13 ∷ []) $ free1 ! $ move ! (10 ∷ 11 ∷ []) $ free1 ! $
         move ! (8 ∷ 9 ∷ []) $ free1 ! $ move ! (6 ∷ 7 ∷ []) $ free1 ! $ free0 ! $ keep ! (0 ∷ 1 ∷ 2 ∷ 3 ∷ 4 ∷ []) $ by ! (exits line u n e g)))))))))))))))))
 
 module _ {M : Type 1} (𝓤 : URA M) (H : Heap 𝓤) (A : Atoms 𝓤) (W : Given 𝓤 H A) (mem : Memory → SProp 𝓤) (run : Routine → Fun 𝓤) where
-  next-walks : (C : Calls 𝓤 H) (Λ : Loops 𝓤 H) → FmC 𝓤 H (W .laws) C → Triple 𝓤 (C #reader·read-at) (ReadAt 𝓤 H A mem run) → Triple 𝓤 (C #reader·place-behind) (PlaceBehind 𝓤 H A mem run)
+  next-walks : (C : Calls 𝓤 H) (Λ : Loops 𝓤 H) → FmC 𝓤 H (W .laws) C → Triple 𝓤 (C #reader·read-at) (ReadAt 𝓤 H A mem run)
+      → Triple 𝓤 (C #reader·place-behind) (PlaceBehind 𝓤 H A mem run)
       → Walks 𝓤 H A next.ended stayed (WpFn 𝓤 H C Λ code.function) (next.clauses 𝓤 H A mem run)
   next-walks C Λ fm known-read known-behind =
       walked 𝓤 H A next.ended stayed (next.clauses 𝓤 H A mem run) (WpFn 𝓤 H C Λ code.function)

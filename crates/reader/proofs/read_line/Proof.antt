@@ -17,7 +17,6 @@ use prog.Wp.{Heap, Calls, Loops, WpFn, Tables}
 use ghost.Atoms.{Atoms, sem}
 use borrow.Within.Token.{Rest, within-token, within-end}
 use contract.BorrowLft.{meet-⊑-right}
-use contract.Lifetimes.{Lfts}
 use contract.Monad.{Fun, fact}
 use contract.Running.{givenOf, tables, tablesOf}
 use types.Kit.{Given, ‵, raw, _⊛_, ⋆, some, later, _$_, _∵_, !, qed, by, move, keep, use1, use2, use3, split, join, pick}
@@ -35,7 +34,7 @@ use denote.Memory.{mem, cellAt, partOf}
 use denote.Plain.{uint-vals, uint-tells, uint-makes}
 use denote.Builtin.{u8, usize}
 use denote.Ref.{RefT, NamedLft, MutRef, now}
-use denote.Signature.{plain, namedLft}
+use denote.Signature.{plain}
 use denote.Signature.Struct.{makes}
 use denote.Slice.{sliceVal, ShrSlice, slice-vals, shr-slice-tells, shr-slice-lawful, shr-slice-copy}
 use denote.Steps.{owned, peeks, heard, nothing}
@@ -138,7 +137,8 @@ module _ {M : Type 1} (𝓤 : URA M) (H : Heap 𝓤) (A : Atoms 𝓤) (W : Given
       move ! (0 ∷ 2 ∷ []) $ fjoin ! $ move ! (2 ∷ 0 ∷ []) $ use2 W (raw (New 𝓤 H A at-mem run .pre to-new)) new-asked $ frame ! $ done !
 
   new-said : (reader : LineReader)
-      → ent 𝓤 (ensured 𝓤 H A new.ended (new.clauses 𝓤 H A at-mem run) (κ, tt) (text, (place, tt)) tt reader) (fact 𝓤 ((reader .text ≡ text) × (reader .at ≡ place)))
+      → ent 𝓤 (ensured 𝓤 H A new.ended (new.clauses 𝓤 H A at-mem run) (κ, tt) (text, (place, tt)) tt reader)
+      (fact 𝓤 ((reader .text ≡ text) × (reader .at ≡ place)))
   new-said reader = exE 𝓤 _ (λ ws. snd∗ 𝓤 (sem 𝓤 H A (lasts new.ended (κ, tt) (text, (place, tt)) ws)) (fact 𝓤 ((reader .text ≡ text) × (reader .at ≡ place))))
 
   -- the reader lies in its local
@@ -151,11 +151,13 @@ module _ {M : Type 1} (𝓤 : URA M) (H : Heap 𝓤) (A : Atoms 𝓤) (W : Given
       fjoin ! $ fpack ! (List Val) (λ us. fsep (cellAt fullShare (R .mir) us l 0) (R .own reader us)) (u ∷ []) $ done !
 
   lay : (reader : LineReader) (l : ℕ)
-      → ent 𝓤 (sem 𝓤 H A (mem R .lies reader l 0)) (sep 𝓤 (sem 𝓤 H A (fat fullShare (Reader′.mir erased) l 0 (mach reader))) (sem 𝓤 H A (R .own reader (mach reader ∷ []))))
+      → ent 𝓤 (sem 𝓤 H A (mem R .lies reader l 0))
+      (sep 𝓤 (sem 𝓤 H A (fat fullShare (Reader′.mir erased) l 0 (mach reader))) (sem 𝓤 H A (R .own reader (mach reader ∷ []))))
   unfolding partOf
   lay reader l =
       qed W (‵ (mem R .lies reader l 0) ∷ []) ∵ fpick ! (λ vs. fsplit ! $
-      spelt ! R (Is R) (shows 𝓤 H A R) (LL.vals (Reader.the-type α) (Reader′.the-laws α)) (LL.tells (Reader.the-type α) (Reader′.the-laws α)) fullShare reader vs l 0 $
+      spelt ! R (Is R) (shows 𝓤 H A R) (LL.vals (Reader.the-type α) (Reader′.the-laws α))
+      (LL.tells (Reader.the-type α) (Reader′.the-laws α)) fullShare reader vs l 0 $
       use1 W (‵ (fat fullShare (Reader′.mir erased) l 0 (mach reader))) (W .laws .raw-at fullShare (Reader′.mir erased) l 0 (mach reader)) $ done !)
 
   -- the call of `next`, at a reader that is lent at (l, 0) under the name δ, for the lifetime ν within κ
@@ -211,11 +213,14 @@ module _ {M : Type 1} (𝓤 : URA M) (H : Heap 𝓤) (A : Atoms 𝓤) (W : Given
     walk : Is (ShrSlice (named 0) κ u8) text (v ∷ [])
         → ent 𝓤 (onEntry 𝓤 H A read-line.signature (κ, tt) (q, tt) (text, (place, tt)) passed) (WpFn 𝓤 H C Λ code.function (v ∷ vint w64 place ∷ []) Post)
     walk p =
-        qed W (raw (onEntry 𝓤 H A read-line.signature (κ, tt) (q, tt) (text, (place, tt)) passed) ∷ []) ∵ enter ! C Λ code.function (v ∷ vint w64 place ∷ []) _ $
+        qed W (raw (onEntry 𝓤 H A read-line.signature (κ, tt) (q, tt) (text, (place, tt)) passed) ∷ []) ∵
+        enter ! C Λ code.function (v ∷ vint w64 place ∷ []) _ $
         alloc1 ! (λ l₀. alloc1 ! (λ l₁. alloc1 ! (λ l₂. alloc1 ! (λ l₃. alloc1 ! (λ l₄. alloc1 ! (λ l₅. alloc1 ! (λ l₆. alloc1 ! (λ l₇. alloc0 ! $ params1 ! $
-        pass1 ! (init ! 12 refl (shr-slice-lawful 𝓤 H A W (named 0) κ u8 .typed text (v ∷ []) p .0)) $ pass1 ! (init ! 10 refl (tt, record { fits = fits })) $ pass0 ! $
+        pass1 ! (init ! 12 refl (shr-slice-lawful 𝓤 H A W (named 0) κ u8 .typed text (v ∷ []) p .0)) $
+        pass1 ! (init ! 10 refl (tt, record { fits = fits })) $ pass0 ! $
         move ! (16 ∷ []) $ use1 W (raw (New 𝓤 H A at-mem run .pre to-new) ⊛ ‵ Own) goes-new $ split ! $
-        calls-at ! fm (New 𝓤 H A at-mem run) known-new to-new (and-then ! (load ! (from ! (stop !)) (look ! 14 refl)) (and-then ! (load ! (from ! (stop !)) (look ! 12 refl)) (no-more !))) (λ u.
+        calls-at ! fm (New 𝓤 H A at-mem run) known-new to-new
+        (and-then ! (load ! (from ! (stop !)) (look ! 14 refl)) (and-then ! (load ! (from ! (stop !)) (look ! 12 refl)) (no-more !))) (λ u.
         use1 W (later (some (λ (reader : LineReader). ((‵ (flft κ q) ⊛ ‵ ftrue) ⊛ ‵ (R .own reader (u ∷ [])))
         ⊛ raw (ensured 𝓤 H A new.ended (new.clauses 𝓤 H A at-mem run) (κ, tt) (text, (place, tt)) tt reader)))) (id⊢ 𝓤 _) $ await ! tt $ pick ! (λ reader.
         split ! $ move ! (1 ∷ []) $ use1 W (raw (fact 𝓤 ((reader .text ≡ text) × (reader .at ≡ place)))) (new-said reader) $
@@ -228,7 +233,8 @@ module _ {M : Type 1} (𝓤 : URA M) (H : Heap 𝓤) (A : Atoms 𝓤) (W : Given
         assigns ! (addr ! (from ! (stop !))) (from ! (stop !)) (init ! 5 refl (tt, tt)) $
         -- the local is lent for a new lifetime within κ
         move ! (11 ∷ 0 ∷ []) $ use2 W (‵ (mem R .lies reader l₃ 0)) (lies reader u l₃) $ lft-new ! tt (λ ν. move ! (1 ∷ []) $
-        use1 W (later (some (λ (δ : GName). ‵ (OwnRef reader ν l₃ δ) ⊛ ‵ (flent (ν ∷ κ) (Body (mem R) l₃ 0 δ))))) (lends-ref 𝓤 H A W R (named 0) (ν ∷ κ) reader l₃ 0) $
+        use1 W (later (some (λ (δ : GName). ‵ (OwnRef reader ν l₃ δ) ⊛ ‵ (flent (ν ∷ κ) (Body (mem R) l₃ 0 δ)))))
+        (lends-ref 𝓤 H A W R (named 0) (ν ∷ κ) reader l₃ 0) $
         await ! tt $ pick ! (λ δ. split ! $ move ! (3 ∷ []) $ split ! $
         use1 W (‵ (flft κ ql) ⊛ ‵ (flft κ qr)) (W .lfts .lft-split κ q) $ split ! $ move ! (5 ∷ 0 ∷ []) $
         use2 W (‵ (flft (ν ∷ κ) ql) ⊛ raw (Rest 𝓤 H A W ν ql)) (within-token 𝓤 H A W ν κ ql) $ split ! $
@@ -236,7 +242,8 @@ module _ {M : Type 1} (𝓤 : URA M) (H : Heap 𝓤) (A : Atoms 𝓤) (W : Given
         move ! (0 ∷ 2 ∷ 4 ∷ []) $ use3 W (raw (Next 𝓤 H A at-mem run .pre (to-next reader ν l₃ δ))) (goes-next reader ν l₃ δ) $
         calls-at ! fm (Next 𝓤 H A at-mem run) known-next (to-next reader ν l₃ δ) (and-then ! (load ! (from ! (stop !)) (look ! 7 refl)) (no-more !)) (λ w.
         use1 W (later (some (λ (line : LineRead). ((‵ (flft (ν ∷ κ) ql) ⊛ ‵ (flft κ qr) ⊛ ‵ ftrue) ⊛ ‵ (OwnLine line w))
-        ⊛ raw (ensured 𝓤 H A next.ended (next.clauses 𝓤 H A at-mem run) (ν ∷ κ, (κ, tt)) (lent reader l₃ δ, tt) tt line)))) (id⊢ 𝓤 _) $ await ! tt $ pick ! (λ line.
+        ⊛ raw (ensured 𝓤 H A next.ended (next.clauses 𝓤 H A at-mem run) (ν ∷ κ, (κ, tt)) (lent reader l₃ δ, tt) tt line)))) (id⊢ 𝓤 _) $ await ! tt $
+        pick ! (λ line.
         split ! $ move ! (1 ∷ []) $ use1 W (some (λ (zs : LineReader × Unit {0}). ‵ (lasts next.ended (ν ∷ κ, (κ, tt)) (lent reader l₃ δ, tt) zs)
         ⊛ raw (fact 𝓤 ((line ≡ readAt (now (reader .text)) (reader .at)) × (zs .0 ≡ readerBehind reader line))))) (id⊢ 𝓤 _) $ pick ! (λ zs.
         split ! $ move ! (1 ∷ []) $ heard ! ((line ≡ readAt (now (reader .text)) (reader .at)) × (zs .0 ≡ readerBehind reader line)) (λ g. fsplit ! $
@@ -257,15 +264,19 @@ module _ {M : Type 1} (𝓤 : URA M) (H : Heap 𝓤) (A : Atoms 𝓤) (W : Given
         use1 W (‵ (Advance.the-row .own (answer line (zs .0 .at)) (answered w (zs .0 .at) ∷ [])))
         (makes 𝓤 H A W (Answer.the-row ∷ usize ∷ []) (had line (zs .0 .at)) (w ∷ [], (vint w64 (zs .0 .at) ∷ [], tt))) $
         peeks ! Advance.the-row (Is Advance.the-row) (shows 𝓤 H A Advance.the-row) (answer line (zs .0 .at)) (answered w (zs .0 .at) ∷ []) (λ made.
-        assigns ! (agg ! (and-then ! (load ! (from ! (stop !)) (look ! 14 refl)) (and-then ! (load ! (from ! (stop !)) (look ! 8 refl)) (no-more !)))) (from ! (stop !))
+        assigns ! (agg ! (and-then ! (load ! (from ! (stop !)) (look ! 14 refl)) (and-then ! (load ! (from ! (stop !)) (look ! 8 refl)) (no-more !))))
+        (from ! (stop !))
         (init ! 21 refl (LL.lawful Advance.the-type Advance′.the-laws 𝓤 H A W .typed (answer line (zs .0 .at)) _ made .0)) $
-        returns ! (look ! 21 refl) $ forget ! 1 refl $ forget ! 8 refl $ forget ! 10 refl $ forget ! 12 refl $ forget ! 14 refl $ forget ! 17 refl $ forget ! 19 refl $
-        forget ! 21 refl $ move ! (21 ∷ 22 ∷ []) $ free1 ! $ move ! (19 ∷ 20 ∷ []) $ free1 ! $ move ! (17 ∷ 18 ∷ []) $ free1 ! $ move ! (1 ∷ 16 ∷ []) $ free1 ! $
+        returns ! (look ! 21 refl) $ forget ! 1 refl $ forget ! 8 refl $ forget ! 10 refl $ forget ! 12 refl $ forget ! 14 refl $ forget ! 17 refl $
+        forget ! 19 refl $
+        forget ! 21 refl $ move ! (21 ∷ 22 ∷ []) $ free1 ! $ move ! (19 ∷ 20 ∷ []) $ free1 ! $ move ! (17 ∷ 18 ∷ []) $ free1 ! $ move ! (1 ∷ 16 ∷ []) $
+        free1 ! $
         move ! (13 ∷ 14 ∷ []) $ free1 ! $ move ! (11 ∷ 12 ∷ []) $ free1 ! $ move ! (9 ∷ 10 ∷ []) $ free1 ! $ move ! (7 ∷ 8 ∷ []) $ free1 ! $ free0 ! $
         keep ! (0 ∷ 2 ∷ 6 ∷ []) $ by ! (exits line w (zs .0 .at) (step-is reader (zs .0) line e g)))))))))))))))))))))))
 
 module _ {M : Type 1} (𝓤 : URA M) (H : Heap 𝓤) (A : Atoms 𝓤) (W : Given 𝓤 H A) (mem : Memory → SProp 𝓤) (run : Routine → Fun 𝓤) where
-  read-line-walks : (C : Calls 𝓤 H) (Λ : Loops 𝓤 H) → FmC 𝓤 H (W .laws) C → Triple 𝓤 (C #reader·new) (New 𝓤 H A mem run) → Triple 𝓤 (C #reader·next) (Next 𝓤 H A mem run)
+  read-line-walks : (C : Calls 𝓤 H) (Λ : Loops 𝓤 H) → FmC 𝓤 H (W .laws) C → Triple 𝓤 (C #reader·new) (New 𝓤 H A mem run)
+      → Triple 𝓤 (C #reader·next) (Next 𝓤 H A mem run)
       → Walks 𝓤 H A read-line.ended stayed (WpFn 𝓤 H C Λ code.function) (read-line.clauses 𝓤 H A mem run)
   read-line-walks C Λ fm known-new known-next =
       walked 𝓤 H A read-line.ended stayed (read-line.clauses 𝓤 H A mem run) (WpFn 𝓤 H C Λ code.function)

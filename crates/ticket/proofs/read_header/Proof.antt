@@ -9,9 +9,10 @@ use Rattle.ticket.proofs.read_header.Statement.{statement}
 use Rattle.ticket.proofs.read_header.Tie as tie
 
 -- The line that was read.
-line-here : (c : tie.After-line) → let read = c .before .before in let start = read .before .before .before .before in
-    LineAt (start .args .text .now) 0 (c .line .given .0 .0) (c .line .given .0 .1 .0) (c .line .given .0 .1 .1 .0) (record { at = read .read-line .result .at })
-line-here c = advance-line _ _ _ (c .before .before .read-line .ensures) _ _ _ _ (c .line .given .1)
+line-here : (c : tie.After-first) → let read = c .before .before in let start = read .before .before .before .before in
+    LineAt (start .args .text .now) 0 (c .first .given .0 .0) (c .first .given .0 .1 .0) (c .first .given .0 .1 .1 .0)
+    (record { at = read .read-line .result .at })
+line-here c = advance-line _ _ _ (c .before .before .read-line .ensures) _ _ _ _ (c .first .given .1)
 
 returns : tie.Need-returns
 returns c = too-long _ (omega arith)
@@ -22,8 +23,8 @@ returns-2 c = no-text _ (omega arith) (omega arith)
 read-line-requires : tie.Need-read-line-requires
 read-line-requires c κs = search needs
 
-enum-known-line : tie.Need-enum-known-line
-enum-known-line c = search needs
+enum-known-first : tie.Need-enum-known-first
+enum-known-first c = search needs
 
 enum-told : tie.Need-enum-told
 enum-told c = search needs
@@ -57,7 +58,7 @@ read-header-spec =
     returns
     returns-2
     read-line-requires
-    enum-known-line
+    enum-known-first
     enum-told
     returns-3
     header-line-requires
