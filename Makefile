@@ -13,7 +13,7 @@
 # make wrong-worlds           wrong rules of the protocol, and a counterexample to each claim that fails under them
 # make unused                 list definitions, lemmas and imports that nothing uses, and edits that docs/COVERAGE.md names and that are not there
 # make compare                the proved library against the second implementation: SEED=1 COUNT=1000000
-# make bench                  speed of both
+# make bench                  speed of the proved library beside the second implementation, which goes message by message
 # make fuzz                   a coverage-guided fuzzer over the C interface: SECONDS=60. It needs clang with its fuzzer
 # make pictures               the runs of examples/*.ticket as pictures in docs/pictures/
 # make install PREFIX=..      the C header, library and pkg-config file; simulate, explain-run, draw-run and the man page
