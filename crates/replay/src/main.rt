@@ -63,12 +63,19 @@ fn run_in(text: &[u8], size: usize, out: &mut [u8], room: usize) -> RunAnswer
     running::run_ticket(&text[..size], &mut out[..room])
 }
 
-// Runs a ticket with an output of `room` bytes and writes what it answers. The bytes past a result, and all bytes after a refusal,
-// must still be the filling.
-fn answer(text: &[u8], size: usize, room: usize)
-    requires { ⌜ size ≤ length (now text) ⌝ }
-    requires { ⌜ room ≤ 1200 ⌝ }
+// The lesser of two numbers.
+fn least(a: usize, b: usize) -> usize
+    ensures { λ r. ⌜ r ≡ min a b ⌝ }
 {
+    if a < b { a } else { b }
+}
+
+// Runs a ticket with an output of `wanted` bytes, or of as many as there is room for, and writes what it answers. The bytes past a result,
+// and all bytes after a refusal, must still be the filling.
+fn answer(text: &[u8], size: usize, wanted: usize)
+    requires { ⌜ size ≤ length (now text) ⌝ }
+{
+    let room = least(wanted, OUTPUT_ROOM);
     let mut out = [FILLING; OUTPUT_ROOM];
     let ran = run_in(text, size, &mut out, room);
     match ran {
@@ -89,13 +96,6 @@ fn wide(x: u8) -> usize
     ensures { λ r. ⌜ r ≤ 255 ⌝ }
 {
     x as usize
-}
-
-// The lesser of two numbers.
-fn least(a: usize, b: usize) -> usize
-    ensures { λ r. ⌜ r ≡ min a b ⌝ }
-{
-    if a < b { a } else { b }
 }
 
 // The byte that two digits stand for. (A letter has bit 6, and its low bits count from 1.) What it gives of other characters no line has.
@@ -130,11 +130,7 @@ fn replay_line(text: &[u8], at: usize, size: usize) -> bool
     take_bytes(text, at, 2, &mut room);
     let mut ticket = [0u8; TICKET_ROOM];
     take_bytes(text, at + 4, count, &mut ticket);
-    answer(
-        &ticket,
-        count,
-        least(wide(room[0]) * 256 + wide(room[1]), OUTPUT_ROOM),
-    );
+    answer(&ticket, count, wide(room[0]) * 256 + wide(room[1]));
     true
 }
 

@@ -6,6 +6,7 @@ ghost use Prim.Native.Nat.{_<_, _≤_};
 ghost use lib.ListN.{length, take};
 ghost use Rattle.formats.specs.ResultLine.{resultSize};
 ghost use Rattle.formats.specs.Running.{programWrites};
+ghost use Rattle.formats.specs.Ticket.{ticketLimit};
 ghost use Rattle.simulate.specs.Input.{Within};
 use running::RunAnswer;
 
@@ -25,7 +26,7 @@ enum Input {
 // Reads until the input ends or the buffer is full. One read that fails makes the whole input unreadable: half a ticket is none.
 // The buffer has room for more bytes than a ticket may have, so that a longer text is refused however long it is.
 fn read_input(buffer: &mut [u8]) -> Input
-    requires { ⌜ 4096 < length (now buffer) ⌝ }
+    requires { ⌜ ticketLimit < length (now buffer) ⌝ }
     ensures { λ r. ⌜ Within r (length (now (buffer .entry))) ⌝ }
 {
     let mut at = 0;

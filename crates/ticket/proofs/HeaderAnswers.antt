@@ -1,78 +1,52 @@
--- What the header makes of a ticket, a law for each answer. Assumes nothing.
+-- What reading the header answers, a law for each return of `read_header`. Assumes nothing.
 use mathlib.Core.List.{List}
 use mathlib.Core.Path.{_≡_, sym, ap, _∙_}
-use mathlib.Core.Bool.{true}
 use Prim.Native.Nat.{ℕ, _≤_, _<_}
 use native.Mathlib.Omega.{arith}
-use borrow.Author.Tests.{lt-ltb, le-ltb}
-use lib.ListN.{length, getD, drop}
-use Rattle.consensus.specs.Instance.{withinLimits}
-use Rattle.formats.specs.Line.{linesOf}
-use Rattle.formats.specs.Reading.{refused, proceed, readFrom}
+use borrow.Author.Tests.{lt-ltb, le-ltb, eq-eqb, ne-eqb}
+use lib.ListN.{length}
 use Rattle.formats.specs.Says.{headerSays}
-use Rattle.formats.specs.Accept.{header, begin, accept}
-use Rattle.formats.specs.Ticket.{ticketLimit, atEnd, readTicket}
+use Rattle.formats.specs.Ticket.{ticketLimit}
 use Rattle.formats.specs.declared.HeaderAnswer.{HeaderAnswer}
-use Rattle.formats.specs.declared.HeaderAnswer.the-variants.{Limits, Refused}
-use Rattle.formats.proofs.LineCases.{HeaderCase, limitsSaid, headerRefused, header-case}
 use Rattle.lines.specs.Words.{lineBytes}
-use Rattle.lines.specs.Read.{readAt}
 use Rattle.lines.specs.declared.Cursor.{Cursor}
-use Rattle.lines.specs.declared.LineRead.the-variants.{NoLine}
-use Rattle.lines.proofs.Read.{LineAt, read-no-line, lines-at-end}
-use Rattle.ticket_lines.proofs.Whole.{header-words}
-use Rattle.ticket.specs.Header.{AfterHeader}
+use Rattle.lines.specs.declared.LineRead.the-variants.{Line, NoLine}
+use Rattle.lines.proofs.Read.{read-line}
+use Rattle.reader.specs.Advance.{advanceAt}
+use Rattle.reader.specs.declared.Advance.{Advance}
+use Rattle.reader.proofs.Advanced.{advance-read, advance-line}
+use Rattle.ticket.specs.Header.{withPlace, firstRead, headerOf}
+use Rattle.ticket.specs.declared.HeaderRead.the-variants.{Refused}
 
-pub too-long : (text : List ℕ) → ticketLimit < length text → readTicket text ≡ refused 1 0
-unfolding readTicket
-too-long text h = rw (lt-ltb ticketLimit (length text) h)
+pub answers-too-long : (text : List ℕ) → ticketLimit < length text → Refused 1 0 ≡ headerOf text
+unfolding headerOf
+answers-too-long text h = rw (lt-ltb ticketLimit (length text) h)
 
 module _ (text : List ℕ) (short : length text ≤ ticketLimit) where
-  whole : readTicket text ≡ readFrom accept atEnd header 1 (linesOf text)
-  unfolding readTicket
-  whole = rw (le-ltb ticketLimit (length text) short)
+  pub answers-no-text : length text ≡ 0 → Refused 3 1 ≡ headerOf text
+  unfolding headerOf
+  answers-no-text h = rw (le-ltb ticketLimit (length text) short, eq-eqb (length text) 0 h)
 
-  pub no-text : length text ≡ 0 → readTicket text ≡ refused 3 1
-  unfolding readFrom atEnd
-  no-text h = whole ∙ ap (readFrom accept atEnd header 1) (lines-at-end text 0 (omega arith))
+  module _ (some : 0 < length text) (ahead : Advance) (advanced : ahead ≡ advanceAt text 0) where
+    by-first : firstRead (ahead .line) ≡ headerOf text
+    unfolding headerOf
+    by-first =
+        let ne : length text ≡ 0 → ⊥ = λ e. omega arith in
+        rw (advance-read text 0 ahead advanced, le-ltb ticketLimit (length text) short, ne-eqb (length text) 0 ne)
 
-  pub no-header : 0 < length text → readAt text 0 ≡ NoLine → readTicket text ≡ refused 2 1
-  unfolding readFrom
-  no-header h e =
-      let rest = read-no-line text 0 e h in
-      whole ∙ ap (readFrom accept atEnd header 1) (rest .1)
+    pub answers-no-line : ahead .line ≡ NoLine → Refused 2 1 ≡ headerOf text
+    unfolding firstRead
+    answers-no-line e = sym (ap firstRead e) ∙ by-first
 
-  -- A line of bytes, and the answer to it as `header_line` gives it.
-  module _ (size head tail : ℕ) (then : Cursor) (line : LineAt text 0 size head tail then)
-      (answer : HeaderAnswer) (given : answer ≡ headerSays (lineBytes size head tail)) where
-    says : answer ≡ headerSays (line .said)
-    says = given ∙ header-words (line .said) (line .each) size head tail (line .sized) (line .upper) (line .lower)
+    -- The reader stands where the next line begins.
+    stands : (size head tail : ℕ) (next : Cursor) → ahead .line ≡ Line size head tail next → ahead .at ≡ next .at
+    stands size head tail next e =
+        let moved = advance-line text 0 ahead advanced size head tail next e in
+        let read = read-line text 0 size head tail next (sym (advance-read text 0 ahead advanced) ∙ e) in
+        omega (arith, moved .after, read .after)
 
-    proceeds : readTicket text ≡ proceed (begin answer) 1 (λ s. readFrom accept atEnd s 2 (linesOf (drop (then .at) text)))
-    unfolding readFrom accept
-    proceeds = rw says (whole ∙ ap (readFrom accept atEnd header 1) (line .lines))
-
-    pub header-refused : {number : ℕ} → answer ≡ Refused number → readTicket text ≡ refused number 1
-    unfolding proceed begin
-    header-refused e = rw e at proceeds
-
-    within : {n t : ℕ} → Limits n t ≡ headerSays (line .said) → withinLimits n t ≡ true
-    within {n} {t} e = by-case (header-case (line .said)) e
-      where
-        by-case : {a : HeaderAnswer} → HeaderCase (line .said) a → Limits n t ≡ a → withinLimits n t ≡ true
-        by-case (limitsSaid kind limits) h =
-            let en : n ≡ getD (line .said) 1 0 = cc in
-            let et : t ≡ getD (line .said) 2 0 = cc in
-            rw (en, et) limits
-        by-case (headerRefused refusal some few) h = absurd (let z : _≡_ {A = ℕ} 0 1 = cc in let f : ⊥ = omega arith in f)
-
-    pub header-says : {n t : ℕ} → answer ≡ Limits n t → AfterHeader text n t (then .at)
-    unfolding proceed begin
-    header-says {n} {t} e =
-        record {
-          short = short;
-          behind = omega (arith, line .after);
-          inside = line .inside;
-          limits = within (sym e ∙ says);
-          same = rw e at proceeds;
-        }
+    -- A line of bytes, and the answer to it as `header_line` gives it.
+    pub answers-line : {size head tail : ℕ} {next : Cursor} → ahead .line ≡ Line size head tail next
+        → {answer said : HeaderAnswer} → answer ≡ headerSays (lineBytes size head tail) → answer ≡ said → withPlace said (ahead .at) ≡ headerOf text
+    unfolding firstRead
+    answers-line {size} {head} {tail} {next} e given told = rw (stands size head tail next e, sym told ∙ given) (sym (ap firstRead e) ∙ by-first)

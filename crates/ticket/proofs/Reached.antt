@@ -16,7 +16,7 @@ use Rattle.formats.specs.Line.{linesOf}
 use Rattle.formats.specs.Reading.{refused, proceed, readFrom}
 use Rattle.formats.specs.Says.{afterProposal, lineSays}
 use Rattle.formats.specs.Accept.{withProposal, withCrash, store, accept}
-use Rattle.formats.specs.Ticket.{atEnd, readTicket}
+use Rattle.formats.specs.Ticket.{ticketLimit, atEnd, readTicket}
 use Rattle.formats.specs.declared.FailureLine.{FailureLine}
 use Rattle.formats.specs.declared.Place.{Place}
 use Rattle.formats.specs.declared.Place.the-variants.{Proposals, Failures, Ended}
@@ -39,7 +39,7 @@ use Rattle.ticket.proofs.Fitting.{CrashFits, Fits, line-fits}
 
 -- The reading stands at line k, which begins at `at`: what is left is read on from here.
 pub record Reached (text : List ℕ) (table : InstanceTable) (at : ℕ) (place : Place) (k : ℕ) : Type 0 where
-  pub short : length text ≤ 4096
+  pub short : length text ≤ ticketLimit
   pub inside : at ≤ length text
   pub counted : k ≤ at + 1
   pub full : Full table

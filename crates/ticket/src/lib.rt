@@ -10,7 +10,7 @@ ghost use Rattle.formats.specs.Ticket.{readTicket};
 ghost use Rattle.ticket.specs.Progress.{endAnswer};
 ghost use Rattle.ticket.specs.Answer.{readingFrom, readingOf};
 ghost use Rattle.ticket.specs.declared.TicketAnswer.{TicketAnswer};
-ghost use Rattle.ticket.specs.Header.{AfterHeader, HeaderSays};
+ghost use Rattle.ticket.specs.Header.{AfterHeader, headerOf};
 
 // The most bytes that a ticket has.
 const TICKET_LIMIT: usize = 4096;
@@ -34,9 +34,9 @@ pub enum HeaderRead {
     Refused(u8, u16),
 }
 
-// Reads the first line of a ticket, unless the ticket is too long.
+// Reads the first line of a ticket, unless the ticket is too long or empty.
 pub fn read_header(text: &[u8]) -> HeaderRead
-    ensures { λ r. ⌜ HeaderSays (now (text .entry)) r ⌝ }
+    ensures { λ r. ⌜ r ≡ headerOf (now (text .entry)) ⌝ }
 {
     if TICKET_LIMIT < text.len() {
         return HeaderRead::Refused(1, 0);
@@ -73,7 +73,8 @@ fn at_end(place: Place, k: u16) -> TicketAnswer
     TicketAnswer::Accepted
 }
 
-// Reads the lines of a ticket behind its header, from `at` on, into lent arrays that hold nothing yet; k is the number of the line that begins `here`.
+// Reads the lines of a ticket behind its header, which says n and t, from the second line on, which begins at `at`, into lent arrays that hold nothing yet.
+// What the arrays hold after a refusal is not promised.
 pub fn read_rest(
     text: &[u8],
     n: u8,
@@ -147,7 +148,7 @@ fn refused_header(number: u8, line: u16) -> TicketRead
     TicketRead { answer, table }
 }
 
-// Reads a ticket whole, its header and the rest; a refused header leaves the table empty.
+// Reads a ticket whole, its header and the rest. What the table holds beside a refusal is not promised.
 pub fn read(text: &[u8]) -> TicketRead
     ensures { λ r. ⌜ readingOf r ≡ readTicket (now (text .entry)) ⌝ }
 {

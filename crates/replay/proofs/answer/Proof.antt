@@ -5,6 +5,9 @@ use Rattle.replay.proofs.answer.Tie as tie
 use borrow.Author.Needs.{needs}
 use native.Mathlib.Omega.{arith}
 
+least-requires : tie.Need-least-requires
+least-requires c κs = search needs
+
 slice-aggregate-run-in : tie.Need-slice-aggregate-run-in
 slice-aggregate-run-in c = search needs
 
@@ -54,6 +57,7 @@ pub answer-spec : {M : Type 1} → statement M
 answer-spec =
     tie.close
     (tie.spec
+    least-requires
     slice-aggregate-run-in
     run-in-requires
     enum-known-ran

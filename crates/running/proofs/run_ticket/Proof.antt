@@ -1,7 +1,7 @@
 -- `running::run_ticket` meets its contract: the header is refused, or the rest is run. Assumes nothing.
-use mathlib.Core.Path.{subst}
+use mathlib.Core.Path.{sym, subst, _∙_}
 use borrow.Author.Needs.{needs}
-use Rattle.ticket.specs.Header.{HeaderSays}
+use Rattle.ticket.proofs.HeaderRight.{HeaderReads, header-right}
 use Rattle.running.proofs.Answers.{ran-refused}
 use Rattle.running.proofs.run_ticket.Statement.{statement}
 use Rattle.running.proofs.run_ticket.Tie as tie
@@ -15,7 +15,7 @@ enum-known-header c = search needs
 run-rest-requires : tie.Need-run-rest-requires
 run-rest-requires c κs =
     let said = c .before .before in
-    subst (HeaderSays _) (said .header .given .1) (said .before .before .read-header .ensures)
+    subst (HeaderReads _) (sym (said .before .before .read-header .ensures) ∙ said .header .given .1) (header-right _)
 
 enum-known-header-2 : tie.Need-enum-known-header-2
 enum-known-header-2 c = search needs
@@ -29,7 +29,7 @@ returns c = c .before .before .run-rest .ensures
 returns-2 : tie.Need-returns-2
 returns-2 c =
     let said = c .before in
-    ran-refused _ _ _ _ (subst (HeaderSays _) (said .header2 .given .1) (said .before .before .read-header .ensures))
+    ran-refused _ _ _ _ (subst (HeaderReads _) (sym (said .before .before .read-header .ensures) ∙ said .header2 .given .1) (header-right _))
 
 pub run-ticket-spec : {M : Type 1} → statement M
 run-ticket-spec =
