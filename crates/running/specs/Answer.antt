@@ -1,4 +1,4 @@
--- What running answers, in document 01's numbers, and what it promises.
+-- What running answers, in document 01's numbers ('The forms we use', last paragraph), and what it promises.
 use mathlib.Core.List.{List}
 use mathlib.Core.Path.{_≡_}
 use Prim.Native.Nat.{ℕ}

@@ -1,4 +1,4 @@
--- What settling answers, in document 01's numbers.
+-- What settling answers, in document 01's numbers ('The forms we use', last paragraph).
 use Prim.Native.Nat.{ℕ}
 use Rattle.formats.specs.Reading.{Reading, accepted, refused}
 use Rattle.running.specs.declared.SettleAnswer.{SettleAnswer}

@@ -1,4 +1,4 @@
--- What reading standard input may answer.
+-- For the code alone: what reading standard input may answer.
 use Prim.Native.Nat.{ℕ, _≤_}
 use Rattle.simulate.specs.declared.Input.{Input}
 use Rattle.simulate.specs.declared.Input.the-variants.{Text, Failed}

@@ -1,3 +1,4 @@
+pub mod Stage
 pub mod CrashTable
 pub mod Stored
 pub mod Fitting

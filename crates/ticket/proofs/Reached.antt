@@ -32,7 +32,8 @@ use Rattle.ticket_lines.proofs.Whole.{line-words}
 use Rattle.ticket.specs.Header.{AfterHeader}
 use Rattle.ticket.specs.Answer.{readingFrom}
 use Rattle.ticket.specs.declared.TicketAnswer.{TicketAnswer}
-use Rattle.ticket.specs.Progress.{soFar, stageOf, endAnswer}
+use Rattle.ticket.proofs.Stage.{soFar, stageOf}
+use Rattle.ticket.specs.Progress.{endAnswer}
 use Rattle.ticket.proofs.CrashTable.{stored, Full, full-roomy, full-stored, crash-stored}
 use Rattle.ticket.proofs.Stored.{withValue, none-so-far, proposal-so-far}
 use Rattle.ticket.proofs.Fitting.{CrashFits, Fits, line-fits}

@@ -15,7 +15,7 @@ use Rattle.tables.specs.declared.InstanceTable.{InstanceTable}
 use Rattle.formats.specs.Says.{afterProposal}
 use Rattle.formats.specs.Accept.{unproposed, withProposal}
 use Rattle.formats.specs.declared.Place.the-variants.{Proposals, Failures}
-use Rattle.ticket.specs.Progress.{soFar}
+use Rattle.ticket.proofs.Stage.{soFar}
 
 -- The table with one value more.
 abbrev pub withValue : InstanceTable → (count v : ℕ) → InstanceTable

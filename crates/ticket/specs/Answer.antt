@@ -1,4 +1,5 @@
--- What an answer to a ticket stands for: document 01's numbers for each of its cases.
+-- What an answer to a ticket stands for (document 01, 'The forms we use', last paragraph: 'a definition that gives this paper's number and values for
+-- each of its cases').
 use Rattle.consensus.specs.Instance.{Instance}
 use Rattle.tables.specs.InstanceOfTable.{instanceOf}
 use Rattle.tables.specs.declared.InstanceTable.{InstanceTable}

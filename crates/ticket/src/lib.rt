@@ -156,9 +156,9 @@ pub fn read(text: &[u8]) -> TicketRead
     match header {
         HeaderRead::Limits(n, t, at) => {
             let mut values = [0u32; 64];
-            let mut rounds = [0u8; 64];
+            let mut crash_rounds = [0u8; 64];
             let mut steps = [0u8; 64];
-            let mut sets = [0u64; 64];
+            let mut reached = [0u64; 64];
             let mut counts = [0u8; 64];
             let answer = read_rest(
                 text,
@@ -166,18 +166,18 @@ pub fn read(text: &[u8]) -> TicketRead
                 t,
                 at,
                 &mut values,
-                &mut rounds,
+                &mut crash_rounds,
                 &mut steps,
-                &mut sets,
+                &mut reached,
                 &mut counts,
             );
             let table = InstanceTable {
                 n,
                 t,
                 values,
-                crash_rounds: rounds,
+                crash_rounds,
                 steps,
-                reached: sets,
+                reached,
                 counts,
             };
             TicketRead { answer, table }
