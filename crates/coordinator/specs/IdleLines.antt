@@ -8,6 +8,7 @@ use Rattle.consensus.specs.Instance.{Instance, Fault, correct, crashes}
 use Rattle.consensus.specs.State.{State}
 use Rattle.consensus.specs.CrashCount.{isIdle}
 use Rattle.coordinator.specs.Run.{runTo, runOf, lastRound, crashesOf, endOf}
+use Rattle.coordinator.specs.WellFormed.{WellFormed}
 
 -- What is left of a process's fault without its failure line if that is idle, given the process's end ("A failure line whose station decided in an earlier
 -- round is idle").
@@ -27,6 +28,8 @@ withoutIdle x =
 
 -- The claim, of a well-formed instance ("it changes nothing").
 pub record IdleLinesChangeNothing (x : Instance) : Type 0 where
+  -- without them it is well-formed again
+  pub formed : WellFormed (withoutIdle x)
   -- the states and the counts are the same after every round, which is what settling looks at too
   pub rounds : (r : ℕ) → r ≤ lastRound x → runTo (withoutIdle x) r ≡ runTo x r
   -- so is the whole run: the ends, the rounds, the speakers, the data and the commit messages
