@@ -22,4 +22,6 @@ pub mod Speakers
 pub mod Bound
 pub mod CountsReached
 pub mod RunRounds
+pub mod FaultsAlike
+pub mod IdleLines
 pub mod WorkedRuns

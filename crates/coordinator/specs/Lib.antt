@@ -11,5 +11,6 @@ pub mod Pairing
 pub mod SpeakerBound
 pub mod CountsReached
 pub mod RunRounds
+pub mod IdleLines
 pub mod WorkedTable
 pub mod WorkedRuns

@@ -8,6 +8,8 @@ use Rattle.consensus.specs.Instance.{Instance}
 use Rattle.coordinator.specs.Run.{lastRound, runOf, crashesOf, latestOf}
 use Rattle.coordinator.specs.Settling.{qualifies}
 use Rattle.coordinator.specs.SpeakerBound.{boundBySpeakers}
+use Rattle.consensus.specs.FourProcesses.{afterOneCommit, idleBesides}
+use Rattle.coordinator.specs.IdleLines.{withoutIdle}
 use Rattle.coordinator.specs.WorkedTable.{WorkedRun, workedRuns}
 
 -- The rounds that qualify, of rounds 0 to r.
@@ -39,3 +41,6 @@ AsWorked (w ∷ runs) = (worked (w .run) ≡ w) × AsWorked runs
 pub record WorkedRuns : Type 0 where
   pub number : length workedRuns ≡ 13
   pub asWorked : AsWorked workedRuns
+  -- case 7 without its idle line is case 1, and the line of case 1 is not idle
+  pub idleTakenOut : withoutIdle idleBesides ≡ afterOneCommit
+  pub otherLeft : withoutIdle afterOneCommit ≡ afterOneCommit

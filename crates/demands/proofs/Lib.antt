@@ -10,4 +10,5 @@ pub mod Demand1
 pub mod Demand2
 pub mod Demand3
 pub mod BoundClaim
+pub mod IdleClaim
 pub mod Witnesses

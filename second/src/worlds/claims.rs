@@ -7,6 +7,7 @@ use super::rules::{right, Rules};
 use crate::process::Status;
 use crate::simulation::{Simulation, Totals};
 use crate::ticket::{Failure, Ticket};
+use crate::worked;
 use crate::Simulator;
 
 /// A claim of the papers.
@@ -43,6 +44,12 @@ pub enum Claim {
     CountsReached,
     /// The run has a last round, and that round qualifies for settling.
     LastRoundSettles,
+    /// Without the failure lines that are idle the states after every round,
+    /// the counts and f are the same.
+    IdleLinesChangeNothing,
+    /// Case 7 without the failure lines that are idle is case 1, and so is case
+    /// 1.
+    IdleLinesTakenOut,
     /// Each claim of demand 3 refuses the ends that are wrong by it.
     RefusesImpostors,
     /// The [`Answer`] for the worked run of this name.
@@ -50,7 +57,7 @@ pub enum Claim {
 }
 
 /// All claims but those of the worked runs.
-pub const CLAIMS: [Claim; 15] = [
+pub const CLAIMS: [Claim; 17] = [
     Claim::Agreement,
     Claim::Validity,
     Claim::Termination,
@@ -65,6 +72,8 @@ pub const CLAIMS: [Claim; 15] = [
     Claim::CountsSpeakers,
     Claim::CountsReached,
     Claim::LastRoundSettles,
+    Claim::IdleLinesChangeNothing,
+    Claim::IdleLinesTakenOut,
     Claim::RefusesImpostors,
 ];
 
@@ -85,6 +94,8 @@ impl fmt::Display for Claim {
             Claim::CountsSpeakers => write!(f, "speakers begin their rounds undecided"),
             Claim::CountsReached => write!(f, "messages counted are those that reach a process"),
             Claim::LastRoundSettles => write!(f, "the last round settles"),
+            Claim::IdleLinesChangeNothing => write!(f, "idle lines change nothing"),
+            Claim::IdleLinesTakenOut => write!(f, "case 7 without its idle line is case 1"),
             Claim::RefusesImpostors => write!(f, "wrong ends are refused"),
             Claim::WorkedRun(name) => write!(f, "worked run, {name}"),
         }
@@ -92,9 +103,9 @@ impl fmt::Display for Claim {
 }
 
 impl Claim {
-    /// Whether the claim holds of a run. Of a run by itself the pair, the wrong
-    /// ends and the worked runs say nothing: see [`no_later`],
-    /// [`super::impostors`] and [`answer`].
+    /// Whether the claim holds of a run. Of a run by itself the pair, case 7, the
+    /// wrong ends and the worked runs say nothing: see [`no_later`],
+    /// [`is_case_1_without_idle`], [`super::impostors`] and [`answer`].
     pub fn holds(self, ticket: &Ticket, run: &Run, rules: &Rules) -> bool {
         match self {
             Claim::Agreement => decisions(run).all(|(_, v)| decisions(run).all(|(_, w)| v == w)),
@@ -136,7 +147,14 @@ impl Claim {
                 (1..=run.n).all(|round| run.messages(round, rules) == run.reached(round, rules))
             }
             Claim::LastRoundSettles => run.settling_rounds(rules).contains(&run.counts.rounds),
-            Claim::NoLater | Claim::RefusesImpostors | Claim::WorkedRun(_) => true,
+            Claim::IdleLinesChangeNothing => {
+                let other = Run::new(&without_idle(ticket, run, rules), rules);
+                (&other.history, other.counts, other.f) == (&run.history, run.counts, run.f)
+            }
+            Claim::NoLater
+            | Claim::IdleLinesTakenOut
+            | Claim::RefusesImpostors
+            | Claim::WorkedRun(_) => true,
         }
     }
 }
@@ -187,6 +205,21 @@ pub fn no_later(first: &Run, second: &Run, rules: &Rules) -> bool {
         (State::Decided(..), _) => false,
         _ => true,
     })
+}
+
+/// The ticket without the failure lines that are idle in its run.
+fn without_idle(ticket: &Ticket, run: &Run, rules: &Rules) -> Ticket {
+    let is_left = |failure: &Failure| {
+        let end = run.ends()[usize::from(failure.process) - 1];
+        (rules.line_left)((rules.is_idle)(failure.round, end))
+    };
+    let failures = ticket.failures.iter().copied().filter(is_left).collect();
+    Ticket { failures, ..ticket.clone() }
+}
+
+/// Whether the ticket is case 1 without the failure lines that are idle.
+pub fn is_case_1_without_idle(ticket: &Ticket, rules: &Rules) -> bool {
+    without_idle(ticket, &Run::new(ticket, rules), rules) == worked::case(1)
 }
 
 /// What is said of a ticket.

@@ -74,6 +74,9 @@ pub struct Rules {
     pub most_speakers: fn(u8) -> u64,
     /// Claim: the most messages of a run.
     pub most_messages: fn(&Run) -> u64,
+    /// Claim: whether a failure line is left in the ticket without idle lines,
+    /// from whether it is idle.
+    pub line_left: fn(idle: bool) -> bool,
     /// Pair: whether these counts of commits may stand in first and second.
     pub counts_paired: fn(first: u8, second: u8) -> bool,
     /// Pair: whether a failure line may stand in one of the two alone.
@@ -117,6 +120,7 @@ pub const RIGHT: Rules = Rules {
     ends_from: 1,
     most_speakers: |f| u64::from(f) + 1,
     most_messages: |run| right::bound_by_speakers(run.n, run.counts.speakers),
+    line_left: |idle| !idle,
     counts_paired: |first, second| first <= second,
     line_in_one: |first, second| right::is_commit_line(first) && second.is_none(),
     proposals_differ: false,

@@ -3,7 +3,7 @@
 
 use std::fmt;
 
-use super::claims::{answer, answer_of_simulation, no_later, Claim};
+use super::claims::{answer, answer_of_simulation, is_case_1_without_idle, no_later, Claim};
 use super::impostors;
 use super::model::Run;
 use super::rules::{right, Rules};
@@ -85,6 +85,10 @@ pub fn counterexample(claim: Claim, runs: &[TicketRun], rules: &Rules) -> Option
         Claim::NoLater => {
             let small = runs.iter().filter(|(ticket, _)| ticket.n <= FEW_PROCESSES);
             small.into_iter().find_map(|first| paired_counterexample(first, rules))
+        }
+        Claim::IdleLinesTakenOut => {
+            let mut cases = [7, 1].map(worked::case).into_iter();
+            cases.find(|ticket| !is_case_1_without_idle(ticket, rules)).as_ref().map(alone)
         }
         Claim::RefusesImpostors => impostors::passes(rules).as_ref().map(alone),
         Claim::WorkedRun(name) => {

@@ -83,7 +83,13 @@ const ROUNDS: &[World] = &[
     ),
     world(
         "coordinator/fault-of-another-round-cuts-commits",
-        &[EarlyDecision, SpeakersWithinBound, MessagesWithinBound, CountsReached],
+        &[
+            EarlyDecision,
+            SpeakersWithinBound,
+            MessagesWithinBound,
+            CountsReached,
+            IdleLinesChangeNothing,
+        ],
         Rules { reach_in_another_round: Reach::Data, ..RIGHT },
     ),
     world(
@@ -97,7 +103,7 @@ const ROUNDS: &[World] = &[
 const MISTAKES: &[World] = &[
     world(
         "coordinator/commits-go-upward",
-        &[Termination, EarlyDecision, NoLater],
+        &[Termination, EarlyDecision, NoLater, IdleLinesTakenOut],
         Rules {
             reach_of_crashing: |sending, crash, to| {
                 commits_reach(sending, crash, to, |sent| to <= sending.round + sent)
@@ -123,7 +129,7 @@ const MISTAKES: &[World] = &[
     ),
     world(
         "consensus/idle-lines-counted-in-f",
-        &[CountsCrashed, RefusesImpostors],
+        &[CountsCrashed, IdleLinesChangeNothing, RefusesImpostors],
         Rules { counts_as_crash: |_| true, ..RIGHT },
     ),
     world(
@@ -184,7 +190,7 @@ const IMPOSTORS: &[World] = &[
     ),
     world(
         "the run is over before round 1",
-        &[Agreement, LastRoundSettles],
+        &[Agreement, LastRoundSettles, IdleLinesTakenOut],
         Rules { initial: |proposal| State::Decided(0, proposal), ..RIGHT },
     ),
     world(
@@ -256,7 +262,15 @@ fn value_or_zero(state: State) -> u32 {
 const COUNTS: &[World] = &[
     world(
         "consensus/crashed-process-not-counted-in-f",
-        &[EarlyDecision, Termination, CrashesAsSaid, CountsCrashed, SpeakersWithinBound],
+        &[
+            EarlyDecision,
+            Termination,
+            CrashesAsSaid,
+            CountsCrashed,
+            SpeakersWithinBound,
+            IdleLinesChangeNothing,
+            IdleLinesTakenOut,
+        ],
         Rules { is_idle: |round, end| has_crashed(end) || right::is_idle(round, end), ..RIGHT },
     ),
     world(
@@ -266,7 +280,13 @@ const COUNTS: &[World] = &[
     ),
     world(
         "coordinator/decided-processes-keep-the-run-going",
-        &[CountsRounds, CountsSpeakers, SpeakersWithinBound, MessagesWithinBound],
+        &[
+            CountsRounds,
+            CountsSpeakers,
+            SpeakersWithinBound,
+            MessagesWithinBound,
+            IdleLinesChangeNothing,
+        ],
         Rules {
             is_undecided: |state| !has_crashed(state),
             speaks: |state| !has_crashed(state),
@@ -275,7 +295,7 @@ const COUNTS: &[World] = &[
     ),
     world(
         "coordinator/silent-coordinators-count-as-speakers",
-        &[SpeakersWithinBound, MessagesWithinBound, CountsSpeakers],
+        &[SpeakersWithinBound, MessagesWithinBound, CountsSpeakers, IdleLinesChangeNothing],
         Rules { speaks: |_| true, ..RIGHT },
     ),
     world(
@@ -477,6 +497,16 @@ const CLAIMED: &[World] = &[
         "coordinator/bound-too-high",
         &[WorkedRun("case 1")],
         Rules { most_messages: |run| (RIGHT.most_messages)(run) + 1, ..RIGHT },
+    ),
+    world(
+        "coordinator/every-line-taken-out",
+        &[IdleLinesChangeNothing, IdleLinesTakenOut],
+        Rules { line_left: |_| false, ..RIGHT },
+    ),
+    world(
+        "coordinator/no-line-taken-out",
+        &[IdleLinesTakenOut],
+        Rules { line_left: |_| true, ..RIGHT },
     ),
     world(
         "formats/bound-of-theorem-2",

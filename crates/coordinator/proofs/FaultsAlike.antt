@@ -1,0 +1,100 @@
+-- A round looks only at the faults of the processes that are up and undecided as it begins, and at those only as far as they are of this round: so two
+-- instances whose faults it does not tell apart have the same round from the same states. Assumes nothing.
+use mathlib.Core.List.{List}
+use mathlib.Core.Path.{_≡_, refl, sym, ap, _∙_}
+use mathlib.Core.Bool.{Bool, true, false, cond}
+use Prim.Native.Nat.{ℕ, _≤_}
+use lib.ListN.{length}
+use Rattle.general.proofs.Indexed.{length-mapFrom}
+use Rattle.consensus.specs.Instance.{Instance, Fault, correct, crashes, CrashPoint, faultOf}
+use Rattle.consensus.specs.State.{State, undecided, decided, crashed, stateOf, crashesIn}
+use Rattle.coordinator.specs.Message.{Messages}
+use Rattle.coordinator.specs.Delivery.{reach, reachIn}
+use Rattle.coordinator.specs.Round.{sentBy, received, after, statesAfter}
+use Rattle.coordinator.specs.Undecided.{isUndecided}
+use Rattle.coordinator.specs.Count.{countIn, speaks, dataIn, commitsIn}
+use Rattle.coordinator.specs.Run.{Run, withRound}
+use Rattle.coordinator.proofs.Pointwise.{states-ext, round-state}
+use Rattle.coordinator.proofs.Rounds.{nothing-arrives}
+use Rattle.coordinator.proofs.Delivery.{reach-up}
+
+-- Two faults that round r does not tell apart: they are the same, or neither is of this round.
+pub data AlikeIn (r : ℕ) (fault fault′ : Fault) : Type 0 where
+  same : fault ≡ fault′ → AlikeIn r fault fault′
+  ofOthers : crashesIn r fault ≡ false → crashesIn r fault′ ≡ false → AlikeIn r fault fault′
+
+-- A speaker whose fault is not of this round sends all.
+count-up : (at : ℕ → CrashPoint → ℕ) (whole r : ℕ) (fault : Fault) → crashesIn r fault ≡ false → countIn at whole r fault ≡ whole
+unfolding crashesIn countIn
+count-up at whole r correct e = refl
+count-up at whole r (crashes round point) e = rw e
+
+module _ (r : ℕ) {fault fault′ : Fault} where
+  crashes-alike : AlikeIn r fault fault′ → crashesIn r fault ≡ crashesIn r fault′
+  crashes-alike (same e) = ap (crashesIn r) e
+  crashes-alike (ofOthers e e′) = e ∙ sym e′
+
+  reach-alike : (n p : ℕ) → AlikeIn r fault fault′ → reachIn n fault r p ≡ reachIn n fault′ r p
+  reach-alike n p (same e) = ap (λ (f : Fault). reachIn n f r p) e
+  reach-alike n p (ofOthers e e′) = reach-up n fault r p e ∙ sym (reach-up n fault′ r p e′)
+
+  count-alike : (at : ℕ → CrashPoint → ℕ) (whole : ℕ) → AlikeIn r fault fault′ → countIn at whole r fault ≡ countIn at whole r fault′
+  count-alike at whole (same e) = ap (countIn at whole r) e
+  count-alike at whole (ofOthers e e′) = count-up at whole r fault e ∙ sym (count-up at whole r fault′ e′)
+
+  -- What a process becomes: its own fault matters only if it is undecided.
+  after-alike : (p : ℕ) (m : Messages) (s : State) → (isUndecided s ≡ true → AlikeIn r fault fault′) → after r p fault m s ≡ after r p fault′ m s
+  unfolding isUndecided after
+  after-alike p m (undecided v) alike = rw (crashes-alike (alike refl))
+  after-alike p m (decided i v) alike = refl
+  after-alike p m (crashed i) alike = refl
+
+  -- What it receives: the coordinator's fault matters only if that is undecided.
+  received-alike : (n p : ℕ) (c : State) → (isUndecided c ≡ true → AlikeIn r fault fault′) → received n r fault c p ≡ received n r fault′ c p
+  unfolding isUndecided received reach sentBy
+  received-alike n p (undecided v) alike = rw (reach-alike n p (alike refl))
+  received-alike n p (decided i v) alike = nothing-arrives _ ∙ sym (nothing-arrives _)
+  received-alike n p (crashed i) alike = nothing-arrives _ ∙ sym (nothing-arrives _)
+
+  -- What is counted: the same.
+  counted-alike : (at : ℕ → CrashPoint → ℕ) (whole : ℕ) (b : Bool) → (b ≡ true → AlikeIn r fault fault′)
+      → cond b (countIn at whole r fault) 0 ≡ cond b (countIn at whole r fault′) 0
+  counted-alike at whole true alike = count-alike at whole (alike refl)
+  counted-alike at whole false alike = refl
+
+-- One round of two instances from the same states: `alike` says that it does not tell the faults apart of a process that begins it undecided.
+module _ (x y : Instance) (size : x .processes ≡ y .processes) (r : ℕ) (states : List State) (first : 1 ≤ r) (last : r ≤ length states)
+    (alike : (p : ℕ) → 1 ≤ p → p ≤ length states → isUndecided (stateOf states p) ≡ true → AlikeIn r (faultOf x p) (faultOf y p)) where
+  states-alike : statesAfter x r states ≡ statesAfter y r states
+  unfolding statesAfter
+  states-alike =
+      states-ext (length states) _ _ (length-mapFrom _ 1 states) (length-mapFrom _ 1 states)
+      (λ p h g. round-state x r p states h g ∙ at-process p h g ∙ sym (round-state y r p states h g))
+    where
+      at-process : (p : ℕ) → 1 ≤ p → p ≤ length states
+          → after r p (faultOf x p) (received (x .processes) r (faultOf x r) (stateOf states r) p) (stateOf states p)
+          ≡ after r p (faultOf y p) (received (y .processes) r (faultOf y r) (stateOf states r) p) (stateOf states p)
+      at-process p h g =
+          ap (λ (m : Messages). after r p (faultOf x p) m (stateOf states p))
+          (ap (λ (n : ℕ). received n r (faultOf x r) (stateOf states r) p) size ∙ received-alike r (y .processes) p (stateOf states r) (alike r first last))
+          ∙ after-alike r p _ (stateOf states p) (alike p h g)
+
+  data-alike : dataIn x r states ≡ dataIn y r states
+  unfolding dataIn speaks faultOf
+  data-alike = rw size (counted-alike r _ _ (isUndecided (stateOf states r)) (alike r first last))
+
+  commits-alike : commitsIn x r states ≡ commitsIn y r states
+  unfolding commitsIn speaks faultOf
+  commits-alike = rw size (counted-alike r _ _ (isUndecided (stateOf states r)) (alike r first last))
+
+-- A round looks only at the faults of undecided processes, and at those only as far as they are of this round.
+pub round-alike : (x y : Instance) → x .processes ≡ y .processes → (r : ℕ) (run : Run) → 1 ≤ r → r ≤ length (run .states)
+    → ((p : ℕ) → 1 ≤ p → p ≤ length (run .states) → isUndecided (stateOf (run .states) p) ≡ true → AlikeIn r (faultOf x p) (faultOf y p))
+    → withRound x r run ≡ withRound y r run
+unfolding withRound
+round-alike x y size r run first last alike =
+    rw (
+      states-alike x y size r (run .states) first last alike,
+      data-alike x y size r (run .states) first last alike,
+      commits-alike x y size r (run .states) first last alike,
+    )

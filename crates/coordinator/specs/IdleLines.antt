@@ -1,0 +1,38 @@
+-- Idle failure lines (document 01, 'A round': "A failure line whose station decided in an earlier round is idle: it changes nothing, and its station counts
+-- as decided, not dark").
+use mathlib.Core.Path.{_≡_}
+use mathlib.Core.Bool.{cond}
+use Prim.Native.Nat.{ℕ, _≤_}
+use Rattle.general.specs.Indexed.{mapFrom}
+use Rattle.consensus.specs.Instance.{Instance, Fault, correct, crashes}
+use Rattle.consensus.specs.State.{State}
+use Rattle.consensus.specs.CrashCount.{isIdle}
+use Rattle.coordinator.specs.Run.{runTo, runOf, lastRound, crashesOf, endOf}
+use Rattle.coordinator.specs.WellFormed.{WellFormed}
+
+-- What is left of a process's fault without its failure line if that is idle, given the process's end ("A failure line whose station decided in an earlier
+-- round is idle").
+unfoldable pub faultLeft : State → Fault → Fault
+faultLeft end correct = correct
+faultLeft end (crashes round point) = cond (isIdle round end) correct (crashes round point)
+
+-- The instance without the failure lines that are idle in its run.
+unfoldable pub withoutIdle : Instance → Instance
+withoutIdle x =
+    record {
+      processes = x .processes;
+      resilience = x .resilience;
+      proposals = x .proposals;
+      pattern = mapFrom (λ p fault. faultLeft (endOf x p) fault) 1 (x .pattern);
+    }
+
+-- The claim, of a well-formed instance ("it changes nothing").
+pub record IdleLinesChangeNothing (x : Instance) : Type 0 where
+  -- without them it is well-formed again
+  pub formed : WellFormed (withoutIdle x)
+  -- the states and the counts are the same after every round, which is what settling looks at too
+  pub rounds : (r : ℕ) → r ≤ lastRound x → runTo (withoutIdle x) r ≡ runTo x r
+  -- so is the whole run: the ends, the rounds, the speakers, the data and the commit messages
+  pub run : runOf (withoutIdle x) ≡ runOf x
+  -- and f
+  pub crashes : crashesOf (withoutIdle x) ≡ crashesOf x
