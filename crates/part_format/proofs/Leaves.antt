@@ -53,7 +53,7 @@ module _ (p n t v : ℕ) (lent : List ℕ) (accepted : startRefusal p n t lent �
 -- ---- closing
 
 -- What an accepted close rests on, and what it leaves.
-pub record Accepted (state heard : List ℕ) : Type 0 where
+pub record Closing (state heard : List ℕ) : Type 0 where
   pub before : Opened state
   pub messages : Messages
   pub received : heardBy (stateFrom state) heard ≡ some messages
@@ -63,7 +63,7 @@ accepted-state : (good : Bool) (k x : ℕ) → eqb k 0 ≡ good → cond (not go
 accepted-state true k x g e = (eqb-true k 0 g, e)
 accepted-state false k x g e = absurd (eqb-false k 0 g e)
 
-accepted-heard : (state heard : List ℕ) → Opened state → (h : Option Messages) → heardBy (stateFrom state) heard ≡ h → heardRefusal h ≡ 0 → Accepted state heard
+accepted-heard : (state heard : List ℕ) → Opened state → (h : Option Messages) → heardBy (stateFrom state) heard ≡ h → heardRefusal h ≡ 0 → Closing state heard
 unfolding heardRefusal
 accepted-heard state heard o (some m) e z =
     record {
@@ -75,7 +75,7 @@ accepted-heard state heard o (some m) e z =
 accepted-heard state heard o none e z = absurd (omega arith)
 
 module _ (state heard : List ℕ) (accepted : closeRefusal state heard ≡ 0) where
-  pub close-accepted : Accepted state heard
+  pub close-accepted : Closing state heard
   unfolding closeRefusal
   close-accepted =
       let parts = accepted-state (eqb (stateRefusal state) 0) (stateRefusal state) (heardRefusal (heardBy (stateFrom state) heard)) refl accepted in
@@ -91,4 +91,9 @@ module _ (state heard : List ℕ) (accepted : closeRefusal state heard ≡ 0) wh
 -- ---- both
 
 pub leaves-valid : LeavesValid
-leaves-valid = record { afterStart = start-leaves-valid; openAfterStart = start-leaves-open; afterClose = close-leaves-valid }
+leaves-valid =
+    record {
+      afterStart = λ p n t v lent a. start-leaves-valid p n t v lent (a .isZero);
+      openAfterStart = λ p n t v lent a. start-leaves-open p n t v lent (a .isZero);
+      afterClose = λ state heard a. close-leaves-valid state heard (a .isZero);
+    }

@@ -15,12 +15,16 @@ use Rattle.part_format.specs.Frame.{heardBy}
 use Rattle.part_format.specs.Start.{startRefusal, startBytes}
 use Rattle.part_format.specs.Speak.{spokenBy, speakRefusal, speakYields, speakAnswer, speakOutput}
 use Rattle.part_format.specs.Close.{closeRefusal, closeState}
-use Rattle.part_format.specs.Refused.{RefusedCallsChangeNothing, AnswersCount, AnswersRefusal, SpeakAnswersApart}
+use Rattle.part_format.specs.Refused.{Refused, RefusedCallsChangeNothing, AnswersCount, AnswersRefusal, SpeakAnswersApart}
 use Rattle.part_format.proofs.Operations.{spoken-length, close-refused, close-no-form, close-closed}
 
 -- k is one of three numbers.
 abbrev Among : (k a b c : ℕ) → Type 0
 Among k a b c = (k ≡ a) ⊎ ((k ≡ b) ⊎ (k ≡ c))
+
+-- A refusal is not 0.
+not-zero : {k : ℕ} → Refused k → k ≡ 0 → ⊥
+not-zero h e = omega (arith, h)
 
 -- ---- starting
 
@@ -102,9 +106,9 @@ close-number state heard h = by-state (state-number state)
 pub refused-change-nothing : RefusedCallsChangeNothing
 refused-change-nothing =
     record {
-      starting = start-refused;
-      speaking = λ state output h. (among-refused _ h (speak-number state (length output)), speak-unchanged state output h);
-      closing = close-number;
+      starting = λ p n t v lent h. start-refused p n t v lent (not-zero h);
+      speaking = λ state output h. (among-refused _ (not-zero h) (speak-number state (length output)), speak-unchanged state output (not-zero h));
+      closing = λ state heard h. close-number state heard (not-zero h);
     }
 
 pub speak-answers-apart : SpeakAnswersApart

@@ -6,8 +6,13 @@ use Rattle.part_format.specs.PartState.{stateRefusal, ValidBytes}
 use Rattle.part_format.specs.Start.{startRefusal, startBytes}
 use Rattle.part_format.specs.Close.{closeRefusal, closeState}
 
+-- A call with this refusal is accepted.
+pub record Accepted (refusal : ℕ) : Type 0 where
+  -- 0 stands for none
+  pub isZero : refusal ≡ 0
+
 -- The claim: what they leave is nine bytes of a valid state again, and after a start the process is open.
 pub record LeavesValid : Type 0 where
-  pub afterStart : (p n t v : ℕ) (lent : List ℕ) → startRefusal p n t lent ≡ 0 → ValidBytes (startBytes p n t v lent)
-  pub openAfterStart : (p n t v : ℕ) (lent : List ℕ) → startRefusal p n t lent ≡ 0 → stateRefusal (startBytes p n t v lent) ≡ 0
-  pub afterClose : (state heard : List ℕ) → closeRefusal state heard ≡ 0 → ValidBytes (closeState state heard)
+  pub afterStart : (p n t v : ℕ) (lent : List ℕ) → Accepted (startRefusal p n t lent) → ValidBytes (startBytes p n t v lent)
+  pub openAfterStart : (p n t v : ℕ) (lent : List ℕ) → Accepted (startRefusal p n t lent) → stateRefusal (startBytes p n t v lent) ≡ 0
+  pub afterClose : (state heard : List ℕ) → Accepted (closeRefusal state heard) → ValidBytes (closeState state heard)

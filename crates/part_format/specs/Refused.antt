@@ -3,23 +3,28 @@
 use mathlib.Core.List.{List}
 use mathlib.Core.Logic.{_⊎_}
 use mathlib.Core.Path.{_≡_}
-use Prim.Native.Nat.{ℕ, _≤_}
+use Prim.Native.Nat.{ℕ, _≤_, _<_}
 use lib.ListN.{length}
 use Rattle.part_format.specs.Start.{startRefusal, startBytes}
 use Rattle.part_format.specs.Speak.{speakRefusal, speakYields, speakAnswer, speakOutput}
 use Rattle.part_format.specs.Close.{closeRefusal, closeState}
 
--- The claim: whatever the call is given, if its refusal is not 0, it is one of its operation's numbers, and every byte stays as it was.
+-- A call with this refusal is refused.
+pub record Refused (refusal : ℕ) : Type 0 where
+  -- 0 stands for none
+  pub notZero : 0 < refusal
+
+-- The claim: whatever a refused call is given, its refusal is one of its operation's numbers, and every byte stays as it was.
 pub record RefusedCallsChangeNothing : Type 0 where
   -- starting ("10 .. Nothing is written")
-  pub starting : (p n t v : ℕ) (lent : List ℕ) → (startRefusal p n t lent ≡ 0 → ⊥)
+  pub starting : (p n t v : ℕ) (lent : List ℕ) → Refused (startRefusal p n t lent)
       → (startRefusal p n t lent ≡ 10) × (startBytes p n t v lent ≡ lent)
   -- speaking ("10 .. 11 .. 9 .. State and output unchanged"); the state is lent to be read alone
-  pub speaking : (state output : List ℕ) → (speakRefusal state (length output) ≡ 0 → ⊥)
+  pub speaking : (state output : List ℕ) → Refused (speakRefusal state (length output))
       → ((speakRefusal state (length output) ≡ 10) ⊎ ((speakRefusal state (length output) ≡ 11) ⊎ (speakRefusal state (length output) ≡ 9)))
       × (speakOutput state output ≡ output)
   -- closing ("10 and 11 as for speaking. 12 .. State unchanged")
-  pub closing : (state heard : List ℕ) → (closeRefusal state heard ≡ 0 → ⊥)
+  pub closing : (state heard : List ℕ) → Refused (closeRefusal state heard)
       → ((closeRefusal state heard ≡ 10) ⊎ ((closeRefusal state heard ≡ 11) ⊎ (closeRefusal state heard ≡ 12)))
       × (closeState state heard ≡ state)
 

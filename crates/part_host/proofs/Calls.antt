@@ -48,7 +48,7 @@ module _ (b output : List ℕ) (enough : outputRoom ≤ length output) where
       record {
         front = λ low. rw (c .count, same-yielded) (take-append-seam (yielded (up b)) _);
         counted = λ low. c .count ∙ ap length same-yielded;
-        refused = λ high. absurd (at-most-eight (c .size) high);
+        refused = λ high. absurd (at-most-eight (c .size) (high .least));
         behind = rw same-yielded (drop-append-seam (yielded (up b)) _);
       }
     where
@@ -61,8 +61,8 @@ module _ (b output : List ℕ) (enough : outputRoom ≤ length output) where
   refused-front a =
       let none : yielded (up b) ≡ [] = sym same-yielded ∙ yields-nothing (omega (arith, a)) in
       record {
-        front = λ low. absurd (let z : ⊥ = omega (arith, a) in z);
-        counted = λ low. absurd (let z : ⊥ = omega (arith, a) in z);
+        front = λ low. absurd (let z : ⊥ = omega (arith, a, low) in z);
+        counted = λ low. absurd (let z : ⊥ = omega (arith, a, low) in z);
         refused = λ high. (a .refusal, none);
         behind = rw same-yielded (drop-append-seam (yielded (up b)) _);
       }
@@ -72,5 +72,5 @@ unfolding OutputYielded SpeakAnswersApart
 output-yielded b output enough = by-answer (speak-answers-apart b (length output))
   where
     by-answer : AnswersCount b (length output) ⊎ AnswersRefusal b (length output) → FindsYielded b output
-    by-answer (inl c) = counted-front b output enough c
-    by-answer (inr a) = refused-front b output enough a
+    by-answer (inl c) = counted-front b output (enough .room) c
+    by-answer (inr a) = refused-front b output (enough .room) a

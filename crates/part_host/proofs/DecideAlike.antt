@@ -116,8 +116,8 @@ module _ (x : Instance) (formed : WellFormed x) where
   unfolding endOf runOf endPartOf partsOf
   parts-decide-alike =
       record {
-        whenDecided = λ p r v d. decided-part x _ p r v (parts-alike _ p (omega arith) (d .process)) (d .state);
-        whenCrashed = λ p r process e. crashed-part x _ p r (parts-alike _ p (omega arith) process) e;
+        whenDecided = λ p r v d. decided-part x _ p r v (parts-alike _ p (omega arith) (omega (arith, d .isProcess))) (d .state);
+        whenCrashed = λ p r c. crashed-part x _ p r (parts-alike _ p (omega arith) (omega (arith, c .isProcess))) (c .state);
       }
 
   speaks-taken : (r p : ℕ) (b : List ℕ) → OpenAfter x r p b → speakRefusal b outputRoom ≡ 0

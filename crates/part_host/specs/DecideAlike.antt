@@ -4,9 +4,9 @@ use mathlib.Core.Path.{_≡_}
 use mathlib.Core.Bool.{true}
 use Prim.Native.Nat.{ℕ, suc, _≤_}
 use Rattle.consensus.specs.Instance.{Instance}
-use Rattle.consensus.specs.State.{undecided, crashed, stateOf}
+use Rattle.consensus.specs.State.{State, undecided, decided, crashed, stateOf}
 use Rattle.coordinator.specs.Run.{runTo, endOf}
-use Rattle.consensus.specs.Consensus.{IsProcess, Decides}
+use Rattle.consensus.specs.Consensus.{IsProcess}
 use Rattle.part_format.specs.PartState.{PartState, stateBytes, markOpen, markDecided}
 use Rattle.part_format.specs.Start.{startRefusal}
 use Rattle.part_format.specs.Speak.{speakRefusal}
@@ -33,10 +33,15 @@ pub record CrashedAlike (x : Instance) (p r : ℕ) (part : Part) : Type 0 where
   pub undecidedThen : stateOf (runTo x before .states) p ≡ undecided estimate
   pub bytes : part ≡ crashedIn r (partBytes x p r markOpen estimate)
 
+-- Process p of the run ends in this state.
+pub record EndsAs (x : Instance) (p : ℕ) (end : State) : Type 0 where
+  pub isProcess : IsProcess x p
+  pub state : endOf x p ≡ end
+
 -- The claim: a process that decides has a part that is up with its round, mark 01 and its value; one that crashes, a part that crashed in the same round.
 pub record DecideAlike (x : Instance) : Type 0 where
-  pub whenDecided : (p r v : ℕ) → Decides x (endOf x) p r v → endPartOf x p ≡ up (partBytes x p r markDecided v)
-  pub whenCrashed : (p r : ℕ) → IsProcess x p → endOf x p ≡ crashed r → CrashedAlike x p r (endPartOf x p)
+  pub whenDecided : (p r v : ℕ) → EndsAs x p (decided r v) → endPartOf x p ≡ up (partBytes x p r markDecided v)
+  pub whenCrashed : (p r : ℕ) → EndsAs x p (crashed r) → CrashedAlike x p r (endPartOf x p)
 
 -- After rounds 1 to r, and before another, the part of process p is open, with these nine bytes.
 pub record OpenAfter (x : Instance) (r p : ℕ) (b : List ℕ) : Type 0 where
