@@ -9,6 +9,7 @@ ghost use Rattle.coordinator.specs.Run.{runTo, runOf};
 ghost use Rattle.coordinator.specs.WellFormed.{WellFormed};
 ghost use Rattle.tables.specs.InstanceOfTable.{tableOf, instanceOf};
 ghost use Rattle.tables.specs.RunOfTable.{statesOver, runFrom};
+ghost use Rattle.coordinator_round.specs.Round.{undecidedSet};
 ghost use Rattle.coordinator_run.specs.CrashSets.{CrashSets};
 use coordinator_sending::count;
 use tables::RunTable;
@@ -33,7 +34,8 @@ fn crash_sets(n: u8, crash_rounds: &[u8; 64]) -> [u64; 64]
     by_round
 }
 
-// The run after rounds 1 to `last`, or after the earlier round by which no process is both up and undecided. Before round 1 every process holds its proposal.
+// The run after rounds 1 to `last`, or after the earlier round by which no process is both up and undecided, and the set of those that are.
+// Before round 1 every process holds its proposal.
 pub fn run_to<'a>(
     n: u8,
     t: u8,
@@ -45,8 +47,9 @@ pub fn run_to<'a>(
     counts: &'a [u8; 64],
 ) -> RunTable
     requires { ⌜ WellFormed (instanceOf (tableOf n t values (now «crash_rounds») (now steps) (now reached) (now counts))) × (last ≤ t + 1) ⌝ }
-    ensures { λ run. ⌜ runFrom n run
-        ≡ runTo (instanceOf (tableOf n t values (now («crash_rounds» .entry)) (now (steps .entry)) (now (reached .entry)) (now (counts .entry)))) last ⌝ }
+    ensures { λ run. ⌜ (runFrom n run
+        ≡ runTo (instanceOf (tableOf n t values (now («crash_rounds» .entry)) (now (steps .entry)) (now (reached .entry)) (now (counts .entry)))) last)
+        × (run .undecided ≡ undecidedSet n run) ⌝ }
 {
     let dying = crash_sets(n, crash_rounds);
     let mut run = RunTable {
@@ -80,7 +83,7 @@ pub fn run_to<'a>(
     run
 }
 
-// The whole run: rounds 1 to t + 1.
+// The whole run: rounds 1 to t + 1, and the set of the processes then up and undecided, as `run_to` has it.
 pub fn run_all<'a>(
     n: u8,
     t: u8,
@@ -91,8 +94,9 @@ pub fn run_all<'a>(
     counts: &'a [u8; 64],
 ) -> RunTable
     requires { ⌜ WellFormed (instanceOf (tableOf n t values (now «crash_rounds») (now steps) (now reached) (now counts))) ⌝ }
-    ensures { λ run. ⌜ runFrom n run
-        ≡ runOf (instanceOf (tableOf n t values (now («crash_rounds» .entry)) (now (steps .entry)) (now (reached .entry)) (now (counts .entry)))) ⌝ }
+    ensures { λ run. ⌜ (runFrom n run
+        ≡ runOf (instanceOf (tableOf n t values (now («crash_rounds» .entry)) (now (steps .entry)) (now (reached .entry)) (now (counts .entry)))))
+        × (run .undecided ≡ undecidedSet n run) ⌝ }
 {
     run_to(n, t, values, t + 1, crash_rounds, steps, reached, counts)
 }

@@ -31,7 +31,7 @@ loop-holds c =
     (λ i h. getD-replicate 64 i 0 0 h) refl refl refl refl refl (c .first-processes .ensures)
 
 returns : tie.Need-returns Inv-loop μ-loop
-returns c = ended-early _ _ _ _ _ (c .before .before .before .loop .inv) (omega (arith, c .if1 .taken))
+returns c = let now = c .before .before .before .loop .inv in (ended-early _ _ _ _ _ now (omega (arith, c .if1 .taken)), now .kept)
 
 sub-i : tie.Need-sub-i Inv-loop μ-loop
 sub-i c = search needs
@@ -78,7 +78,7 @@ loop-again c =
     at-next-round _ _ _ _ _ (test .before .before .before .loop .inv) _ (omega arith) (c .run-round .ensures)
 
 returns-2 : tie.Need-returns-2 Inv-loop μ-loop
-returns-2 c = ended-late _ _ _ _ _ (c .before .loop .inv) (omega arith)
+returns-2 c = let now = c .before .loop .inv in (ended-late _ _ _ _ _ now (omega arith), now .kept)
 
 pub run-to-spec : {M : Type 1} → statement M
 run-to-spec =
