@@ -46,7 +46,7 @@ none-to-itself : (n r p : ℕ) (fault : Fault) → eqb p r ≡ true → reach n 
 unfolding reach
 none-to-itself n r p fault e = let same : p ≡ r = eqb-true p r e in let below : p ≤ r = omega arith in rw (le-ltb r p below)
 
-module _ (n r : ℕ) (fault : Fault) (dying : ℕ) (run next : RunTable) (sized : Sized run) (allowed : RoundAllowed n r fault run)
+module _ (n r : ℕ) (fault : Fault) (dying : ℕ) (run next : RunTable) (sized : Sized run) (allowed : RoundAllowed n r fault dying run)
     (stored : Stored r (sendingBy n r fault (member r (run .undecided))) dying run next (cond (member r (run .undecided)) 1 0)) where
   abbrev states : List State
   states = statesIn n run
@@ -60,7 +60,7 @@ module _ (n r : ℕ) (fault : Fault) (dying : ℕ) (run next : RunTable) (sized 
   speaker : member r (run .undecided) ≡ speaks r states
   unfolding speaks
   speaker =
-      waits-as n r fault run sized allowed r (allowed .sender .first) (allowed .sender .last)
+      waits-as n r fault dying run sized allowed r (allowed .sender .first) (allowed .sender .last)
       ∙ sym (ap isUndecided (state-over n _ _ _ entries r (allowed .sender .first) (allowed .sender .last)) ∙ undecided-end _ _ _)
 
   module _ (x : Instance) (of : RoundOf x n r fault dying) where
@@ -69,7 +69,7 @@ module _ (n r : ℕ) (fault : Fault) (dying : ℕ) (run next : RunTable) (sized 
         ≡ arriving (reach n fault r p) (cond (member r (run .undecided)) (sends true (getD (run .values) (r - 1) 0)) nothing)
     unfolding received
     hears p =
-        let speaks-as = waits-as n r fault run sized allowed r (allowed .sender .first) (allowed .sender .last) in
+        let speaks-as = waits-as n r fault dying run sized allowed r (allowed .sender .first) (allowed .sender .last) in
         rw (of .coordinator, of .processes, state-over n _ _ _ entries r (allowed .sender .first) (allowed .sender .last), sent-by-end, speaks-as)
 
     -- The states, process by process.
@@ -77,7 +77,7 @@ module _ (n r : ℕ) (fault : Fault) (dying : ℕ) (run next : RunTable) (sized 
     state-as p h g =
         let dies : crashesIn r (faultOf x p) ≡ member p dying = sym (ap (member p) (of .crashing) ∙ member-set n _ p h g) in
         let one : eqb p r ≡ true → member r (run .undecided) ≡ eqb (getD (run .ends) (p - 1) 0) 0 =
-        λ e. ap (λ (q : ℕ). member q (run .undecided)) (sym (eqb-true p r e)) ∙ waits-as n r fault run sized allowed p h g
+        λ e. ap (λ (q : ℕ). member q (run .undecided)) (sym (eqb-true p r e)) ∙ waits-as n r fault dying run sized allowed p h g
         in
         let becoming = becomes r p (getD (run .values) (r - 1) 0) (getD (run .«end_rounds») (p - 1) 0) (getD (run .values) (p - 1) 0) (faultOf x p)
         (getD (run .ends) (p - 1) 0) _ (member p dying) (member r (run .undecided)) (eqb p r) (reach n fault r p) refl dies refl one
@@ -116,7 +116,7 @@ module _ (n r : ℕ) (fault : Fault) (dying : ℕ) (run next : RunTable) (sized 
   round-done = record { kept = kept-after n r fault dying run next _ sized allowed stored; round = round-as }
 
 -- The same, of the sets and the count of speakers that the code has got from its callees.
-pub round-from : (n r : ℕ) (fault : Fault) (dying : ℕ) (run next : RunTable) → Sized run → RoundAllowed n r fault run
+pub round-from : (n r : ℕ) (fault : Fault) (dying : ℕ) (run next : RunTable) → Sized run → RoundAllowed n r fault dying run
     → (sent : Sent) → sent ≡ sendingBy n r fault (member r (run .undecided)) → (speakers : ℕ) → speakers ≡ cond (member r (run .undecided)) 1 0
     → Stored r sent dying run next speakers → RoundRun n r fault dying run next
 round-from n r fault dying run next sized allowed sent of-sent speakers of-speakers stored =

@@ -56,13 +56,13 @@ member-if true n test p h g = member-set n test p h g
 member-if false n test p h g = member-none p
 
 -- Process p, of n, is in the table's set just if its end is 0.
-pub waits-as : (n r : ℕ) (fault : Fault) (run : RunTable) → Sized run → RoundAllowed n r fault run → (p : ℕ) → 1 ≤ p → p ≤ n
+pub waits-as : (n r : ℕ) (fault : Fault) (dying : ℕ) (run : RunTable) → Sized run → RoundAllowed n r fault dying run → (p : ℕ) → 1 ≤ p → p ≤ n
     → member p (run .undecided) ≡ eqb (getD (run .ends) (p - 1) 0) 0
-waits-as n r fault run sized allowed p h g =
+waits-as n r fault dying run sized allowed p h g =
     ap (member p) (allowed .kept) ∙ member-set n _ p h g
     ∙ ap isUndecided (state-over n _ _ _ (omega (arith, allowed .sender .at-most-64, sized .ends)) p h g) ∙ undecided-end _ _ _
 
-module _ (n r : ℕ) (fault : Fault) (dying : ℕ) (run next : RunTable) (speakers : ℕ) (sized : Sized run) (allowed : RoundAllowed n r fault run)
+module _ (n r : ℕ) (fault : Fault) (dying : ℕ) (run next : RunTable) (speakers : ℕ) (sized : Sized run) (allowed : RoundAllowed n r fault dying run)
     (stored : Stored r (sendingBy n r fault (member r (run .undecided))) dying run next speakers) where
   abbrev sent : Sent
   sent = sendingBy n r fault (member r (run .undecided))
@@ -90,10 +90,10 @@ module _ (n r : ℕ) (fault : Fault) (dying : ℕ) (run next : RunTable) (speake
     far = reach n fault r p
 
     in-crashing : member p (crashingIn (run .undecided) dying) ≡ (waits p && member p dying)
-    in-crashing = member-and p (run .undecided) dying ∙ rw (waits-as n r fault run sized allowed p h g)
+    in-crashing = member-and p (run .undecided) dying ∙ rw (waits-as n r fault dying run sized allowed p h g)
 
     in-live : member p (liveIn (run .undecided) dying) ≡ lives (waits p) (member p dying)
-    in-live = member-xor p (run .undecided) _ ∙ rw (in-crashing, waits-as n r fault run sized allowed p h g)
+    in-live = member-xor p (run .undecided) _ ∙ rw (in-crashing, waits-as n r fault dying run sized allowed p h g)
 
     in-deciding : member p (decidingIn (run .undecided) dying sent) ≡ decides (waits p) (member p dying) speaks (eqb p r) far
     unfolding sendingBy

@@ -16,7 +16,7 @@ pub fn run_round(
     dying: u64,
     run: RunTable,
 ) -> RunTable
-    requires { ⌜ RoundAllowed n r (faultFrom round step set count) run ⌝ }
+    requires { ⌜ RoundAllowed n r (faultFrom round step set count) dying run ⌝ }
     ensures { λ next. ⌜ RoundRun n r (faultFrom round step set count) dying run next ⌝ }
 {
     let mut next = run;

@@ -119,8 +119,21 @@ module _ (x : InstanceTable) (last : ℕ) (dying : List ℕ) (run : RunTable) (r
       in
       omega (arith, size, length-mapFrom (stateOver (run .«end_rounds») (run .values)) 1 (take (x .n) (run .ends)), length-take (x .n) (run .ends))
 
+  -- What the code takes for round r is that of the instance.
+  round-of : r ≤ last → RoundOf (instanceOf x) (x .n) r (numbered x r) (getD dying (r - 1) 0)
+  round-of g =
+      let w = now .well-formed in
+      record {
+        well-formed = w;
+        processes = processes-of x;
+        coordinator = its-fault x w r (now .first) (omega arith);
+        crashing =
+            now .crashing r (now .first) (omega arith)
+            ∙ set-same (x .n) _ _ (λ p h k. rw (its-fault x w p h k) (crashes-by-round r _ _ _ _ (now .first)));
+      }
+
   -- Each of rounds 1 to `last` may be run on the table, as long as a process is up and undecided.
-  pub round-allowed : r ≤ last → (run .undecided ≡ 0 → ⊥) → RoundAllowed (x .n) r (numbered x r) run
+  pub round-allowed : r ≤ last → (run .undecided ≡ 0 → ⊥) → RoundAllowed (x .n) r (numbered x r) (getD dying (r - 1) 0) run
   unfolding runFrom
   round-allowed g some =
       let w = now .well-formed in
@@ -139,24 +152,13 @@ module _ (x : InstanceTable) (last : ℕ) (dying : List ℕ) (run : RunTable) (r
               resilience = instanceOf x .resilience;
               allowed = rw (its-fault x w r (now .first) here, processes-of x) at allowed;
             };
+        instance = instanceOf x;
+        of-instance = round-of g;
         some-undecided = somebody (x .n) run entries (now .kept) some;
         kept = now .kept;
         speakers = omega (arith, speakers-le (instanceOf x) (r - 1));
         data-sent = omega (arith, data-sent-le (instanceOf x) w (r - 1) inside);
         commits-sent = omega (arith, commits-sent-le (instanceOf x) w (r - 1) inside);
-      }
-
-  -- What the code takes for round r is that of the instance.
-  round-of : r ≤ last → RoundOf (instanceOf x) (x .n) r (numbered x r) (getD dying (r - 1) 0)
-  round-of g =
-      let w = now .well-formed in
-      record {
-        well-formed = w;
-        processes = processes-of x;
-        coordinator = its-fault x w r (now .first) (omega arith);
-        crashing =
-            now .crashing r (now .first) (omega arith)
-            ∙ set-same (x .n) _ _ (λ p h k. rw (its-fault x w p h k) (crashes-by-round r _ _ _ _ (now .first)));
       }
 
   pub at-next-round : (next : RunTable) → r ≤ last → RoundRun (x .n) r (numbered x r) (getD dying (r - 1) 0) run next → AtRound x last dying next (r + 1)
