@@ -29,11 +29,11 @@ use Rattle.coordinator_round.specs.Round.{undecidedSet, RoundAllowed, RoundOf, 
 use Rattle.coordinator_run.proofs.Reading.{limits, rounds-fit}
 
 -- The run as round r begins, one of rounds 1 to `last` or the one after them; and the sets of those that crash in each round.
-pub record AtRound (x : InstanceTable) (last : ℕ) (dying : List ℕ) (run : RunTable) (r : ℕ) : Type 0 where
+pub record AtRound (x : InstanceTable) (last : ℕ) (faulty : List ℕ) (run : RunTable) (r : ℕ) : Type 0 where
   pub well-formed : WellFormed (instanceOf x)
   pub last-process : last ≤ x .n
   pub at-most-64 : x .n ≤ 64
-  pub crashing : CrashSets (x .n) (x .«crash_rounds») dying
+  pub crashing : CrashSets (x .n) (x .«crash_rounds») faulty
   pub first : 1 ≤ r
   pub at-most : r ≤ last + 1
   pub kept : run .undecided ≡ undecidedSet (x .n) run
@@ -48,8 +48,8 @@ module _ (x : InstanceTable) (w : WellFormed (instanceOf x)) where
   its-fault p h g = fault-at x p (rounds-fit x w) h g
 
 -- A table whose ends and counts are 0 and whose values are the proposals is that of the run as round 1 begins.
-module _ (x : InstanceTable) (last : ℕ) (dying : List ℕ) (run : RunTable) (w : WellFormed (instanceOf x)) (within : last ≤ x .t + 1)
-    (crashing : CrashSets (x .n) (x .«crash_rounds») dying) (entries : length (run .ends) ≡ 64)
+module _ (x : InstanceTable) (last : ℕ) (faulty : List ℕ) (run : RunTable) (w : WellFormed (instanceOf x)) (within : last ≤ x .t + 1)
+    (crashing : CrashSets (x .n) (x .«crash_rounds») faulty) (entries : length (run .ends) ≡ 64)
     (none-ended : (i : ℕ) → i < 64 → getD (run .ends) i 0 ≡ 0) (values : run .values ≡ x .values) where
   fits : x .n ≤ length (run .ends)
   fits = omega (arith, limits x w, entries)
@@ -75,7 +75,7 @@ module _ (x : InstanceTable) (last : ℕ) (dying : List ℕ) (run : RunTable) (w
   all-undecided = first-set (x .n) ∙ set-same (x .n) _ _ (λ p h g. sym (ap isUndecided (start-state p h g)))
 
   pub at-first-round : run .rounds ≡ 0 → run .speakers ≡ 0 → run .«data_sent» ≡ 0 → run .«commits_sent» ≡ 0 → run .undecided ≡ 2 ^ (x .n) - 1
-      → AtRound x last dying run 1
+      → AtRound x last faulty run 1
   unfolding runFrom runTo initial
   at-first-round rounds speakers data-sent commits-sent first-n =
       record {
@@ -108,7 +108,7 @@ module _ (n : ℕ) (run : RunTable) (entries : n ≤ length (run .ends)) (kept :
       by-test true e = refl
       by-test false e = absurd (some (kept ∙ sym (set-empty n _ (λ p _ _. none-undecided (statesIn n run) p e))))
 
-module _ (x : InstanceTable) (last : ℕ) (dying : List ℕ) (run : RunTable) (r : ℕ) (now : AtRound x last dying run r) where
+module _ (x : InstanceTable) (last : ℕ) (faulty : List ℕ) (run : RunTable) (r : ℕ) (now : AtRound x last faulty run r) where
   -- The table has an end for each process, as the run has a state for each.
   entries : x .n ≤ length (run .ends)
   unfolding runFrom statesOver
@@ -120,7 +120,7 @@ module _ (x : InstanceTable) (last : ℕ) (dying : List ℕ) (run : RunTable) (r
       omega (arith, size, length-mapFrom (stateOver (run .«end_rounds») (run .values)) 1 (take (x .n) (run .ends)), length-take (x .n) (run .ends))
 
   -- What the code takes for round r is that of the instance.
-  round-of : r ≤ last → RoundOf (instanceOf x) (x .n) r (numbered x r) (getD dying (r - 1) 0)
+  round-of : r ≤ last → RoundOf (instanceOf x) (x .n) r (numbered x r) (getD faulty (r - 1) 0)
   round-of g =
       let w = now .well-formed in
       record {
@@ -133,7 +133,7 @@ module _ (x : InstanceTable) (last : ℕ) (dying : List ℕ) (run : RunTable) (r
       }
 
   -- Each of rounds 1 to `last` may be run on the table, as long as a process is up and undecided.
-  pub round-allowed : r ≤ last → (run .undecided ≡ 0 → ⊥) → RoundAllowed (x .n) r (numbered x r) (getD dying (r - 1) 0) run
+  pub round-allowed : r ≤ last → (run .undecided ≡ 0 → ⊥) → RoundAllowed (x .n) r (numbered x r) (getD faulty (r - 1) 0) run
   unfolding runFrom
   round-allowed g some =
       let w = now .well-formed in
@@ -161,7 +161,7 @@ module _ (x : InstanceTable) (last : ℕ) (dying : List ℕ) (run : RunTable) (r
         commits-sent = omega (arith, commits-sent-le (instanceOf x) w (r - 1) inside);
       }
 
-  pub at-next-round : (next : RunTable) → r ≤ last → RoundRun (x .n) r (numbered x r) (getD dying (r - 1) 0) run next → AtRound x last dying next (r + 1)
+  pub at-next-round : (next : RunTable) → r ≤ last → RoundRun (x .n) r (numbered x r) (getD faulty (r - 1) 0) run next → AtRound x last faulty next (r + 1)
   unfolding runTo
   at-next-round next g done =
       let number : r + 1 - 1 ≡ suc (r - 1) = omega arith in

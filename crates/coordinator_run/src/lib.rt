@@ -51,7 +51,7 @@ pub fn run_to<'a>(
         ≡ runTo (instanceOf (tableOf n t values (now («crash_rounds» .entry)) (now (steps .entry)) (now (reached .entry)) (now (counts .entry)))) last)
         × (run .undecided ≡ undecidedSet n run) ⌝ }
 {
-    let dying = crash_sets(n, crash_rounds);
+    let faulty = crash_sets(n, crash_rounds);
     let mut run = RunTable {
         ends: [tables::UNDECIDED; 64],
         end_rounds: [0; 64],
@@ -75,7 +75,7 @@ pub fn run_to<'a>(
             steps[i],
             reached[i],
             counts[i],
-            dying[i],
+            faulty[i],
             run,
         );
         r += 1;

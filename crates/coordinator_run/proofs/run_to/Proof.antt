@@ -11,11 +11,11 @@ use Rattle.coordinator_run.proofs.run_to.Statement.{statement}
 use Rattle.coordinator_run.proofs.run_to.Tie as tie
 
 abbrev Inv-loop : tie.InvT-loop
-Inv-loop n t last crash-rounds steps reached counts dying run₀ r₀ run r =
-    AtRound (tableOf n t (run₀ .values) crash-rounds steps reached counts) last dying run r
+Inv-loop n t last crash-rounds steps reached counts faulty run₀ r₀ run r =
+    AtRound (tableOf n t (run₀ .values) crash-rounds steps reached counts) last faulty run r
 
 abbrev μ-loop : tie.MeasureT-loop
-μ-loop n t last crash-rounds steps reached counts dying run₀ r₀ run r = last + 1 - r
+μ-loop n t last crash-rounds steps reached counts faulty run₀ r₀ run r = last + 1 - r
 
 crash-sets-requires : tie.Need-crash-sets-requires Inv-loop μ-loop
 crash-sets-requires c κs = limits _ (c .pre .0) .1
