@@ -1,16 +1,15 @@
 // The rounds of an instance one after the other, until no process is both up and undecided (document 01, 'A round'), and f.
 // The instance's arrays are lent; the run is a table by value that goes through each round and comes back.
-ghost use mathlib.Core.List.{[]};
 ghost use mathlib.Core.Path.{_≡_};
 ghost use Prim.Native.Nat.{_+_, _≤_};
 ghost use lib.ListN.{length};
-ghost use Rattle.consensus.specs.CrashCount.{crashCount};
 ghost use Rattle.coordinator.specs.Run.{runTo, runOf};
 ghost use Rattle.coordinator.specs.WellFormed.{WellFormed};
 ghost use Rattle.tables.specs.InstanceOfTable.{tableOf, instanceOf};
-ghost use Rattle.tables.specs.RunOfTable.{statesOver, runFrom};
+ghost use Rattle.tables.specs.RunOfTable.{runFrom};
 ghost use Rattle.coordinator_round.specs.Round.{undecidedSet};
 ghost use Rattle.coordinator_run.specs.CrashSets.{CrashSets};
+ghost use Rattle.coordinator_run.specs.CrashCountOver.{crashCountOver};
 use coordinator_sending::count;
 use tables::RunTable;
 
@@ -101,7 +100,7 @@ pub fn run_all<'a>(
     run_to(n, t, values, t + 1, crash_rounds, steps, reached, counts)
 }
 
-// f: the failure lines that are not idle, given the last states. Steps, sets, counts and values do not matter: the definition is taken at none.
+// f: the failure lines that are not idle, given the last states. It looks at the crash rounds, the ends and the rounds of these alone.
 // (That the arrays have so many places is in their types; a proof is not told so of an array that is lent, so the contract says it.)
 pub fn crash_count<'a>(
     n: u8,
@@ -110,9 +109,7 @@ pub fn crash_count<'a>(
     end_rounds: &'a [u8; 64],
 ) -> u8
     requires { ⌜ (n ≤ 64) × (n ≤ length (now «crash_rounds»)) × (n ≤ length (now ends)) ⌝ }
-    ensures { λ f. ⌜ f
-        ≡ crashCount (instanceOf (tableOf n 0 [] (now («crash_rounds» .entry)) [] [] []) .pattern)
-        (statesOver n (now (ends .entry)) (now («end_rounds» .entry)) []) ⌝ }
+    ensures { λ f. ⌜ f ≡ crashCountOver n (now («crash_rounds» .entry)) (now (ends .entry)) (now («end_rounds» .entry)) ⌝ }
 {
     let mut f: u8 = 0;
     let mut p: u8 = 1;

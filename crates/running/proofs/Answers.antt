@@ -23,7 +23,8 @@ use Rattle.formats.specs.ResultLine.{resultText, resultLines, resultSize}
 use Rattle.formats.proofs.ResultLength.{length-text}
 use Rattle.formats.specs.Running.{resultIn, running, bufferAfter}
 use Rattle.formats.specs.Settle.{Settles}
-use Rattle.coordinator_run.proofs.Crashes.{faultsBy, statesBy, counts-by-rounds}
+use Rattle.coordinator_run.specs.CrashCountOver.{crashCountOver}
+use Rattle.coordinator_run.proofs.Crashes.{counts-by-rounds}
 use Rattle.result.specs.RunOver.{runOver}
 use Rattle.result.proofs.RunOver.{run-over}
 use Rattle.running.specs.Answer.{answerOf, Ran}
@@ -74,7 +75,7 @@ module _ (text before : List ℕ) where
 
 -- What is written of the code's run and its f is the instance's result.
 pub run-written : (table : InstanceTable) (before after : List ℕ) (run : RunTable) (f : ℕ) → runFrom (table .n) run ≡ runOf (instanceOf table)
-    → f ≡ crashCount (faultsBy (table .n) (table .«crash_rounds»)) (statesBy (table .n) (run .ends) (run .«end_rounds»))
+    → f ≡ crashCountOver (table .n) (table .«crash_rounds») (run .ends) (run .«end_rounds»)
     → after
     ≡ resultLines (runOver (table .n) (run .ends) (run .«end_rounds») (run .values) (run .rounds) (run .speakers) (run .«data_sent») (run .«commits_sent»)) f
     ++ drop (resultSize (table .n)) before
