@@ -26,7 +26,7 @@ use Rattle.coordinator.specs.Run.{withRound}
 use Rattle.coordinator.proofs.CountsReached.{counts-reached}
 use Rattle.coordinator.proofs.Pointwise.{receivedIn, states-ext, round-state}
 use Rattle.tables.specs.declared.RunTable.{RunTable}
-use Rattle.tables.specs.RunOfTable.{statesIn, runFrom}
+use Rattle.tables.specs.RunOfTable.{statesIn, runOver, runFrom}
 use Rattle.tables.proofs.Places.{length-states-over, state-over}
 use Rattle.coordinator_sending.specs.declared.Sent.{Sent}
 use Rattle.coordinator_sending.specs.Sending.{sendingBy}
@@ -104,7 +104,7 @@ module _ (n r : ℕ) (fault : Fault) (faulty : ℕ) (run next : RunTable) (sized
         ∙ sym (as-reached r states (allowed .sender .first) last (as-many ∙ sym (of .processes)) ∙ rw (of .coordinator, of .processes, ← speaker))
 
     round-as : runFrom n next ≡ withRound x r (runFrom n run)
-    unfolding runFrom withRound sendingBy
+    unfolding runOver withRound sendingBy
     round-as =
         let reached = counts-reached x (of .well-formed) in
         let data-sent = counted-as dataIn getsData (reached .dataOfRound) in

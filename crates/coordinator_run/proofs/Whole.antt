@@ -21,7 +21,7 @@ use Rattle.coordinator.proofs.Counts.{speakers-le, data-sent-le, commits-sent-l
 use Rattle.tables.specs.declared.InstanceTable.{InstanceTable}
 use Rattle.tables.specs.declared.RunTable.{RunTable}
 use Rattle.tables.specs.InstanceOfTable.{faultFrom, instanceOf}
-use Rattle.tables.specs.RunOfTable.{stateByEnd, stateOver, statesOver, statesIn, runFrom}
+use Rattle.tables.specs.RunOfTable.{stateByEnd, stateOver, statesOver, statesIn, runOver, runFrom}
 use Rattle.tables.proofs.Places.{processes-of, resilience-of, fault-at, state-over, length-states-over}
 use Rattle.coordinator_sending.proofs.Cases.{crashes-by-round}
 use Rattle.coordinator_run.specs.CrashSets.{CrashSets}
@@ -76,7 +76,7 @@ module _ (x : InstanceTable) (last : ℕ) (faulty : List ℕ) (run : RunTable) (
 
   pub at-first-round : run .rounds ≡ 0 → run .speakers ≡ 0 → run .«data_sent» ≡ 0 → run .«commits_sent» ≡ 0 → run .undecided ≡ 2 ^ (x .n) - 1
       → AtRound x last faulty run 1
-  unfolding runFrom runTo initial
+  unfolding runOver runTo initial
   at-first-round rounds speakers data-sent commits-sent first-n =
       record {
         well-formed = w;
@@ -111,7 +111,7 @@ module _ (n : ℕ) (run : RunTable) (entries : n ≤ length (run .ends)) (kept :
 module _ (x : InstanceTable) (last : ℕ) (faulty : List ℕ) (run : RunTable) (r : ℕ) (now : AtRound x last faulty run r) where
   -- The table has an end for each process, as the run has a state for each.
   entries : x .n ≤ length (run .ends)
-  unfolding runFrom statesOver
+  unfolding runOver statesOver
   entries =
       let size : length (statesIn (x .n) run) ≡ x .n =
       ap (λ (known : Run). length (known .states)) (now .so-far) ∙ length-states (instanceOf x) (r - 1)
@@ -134,7 +134,7 @@ module _ (x : InstanceTable) (last : ℕ) (faulty : List ℕ) (run : RunTable) (
 
   -- Each of rounds 1 to `last` may be run on the table, as long as a process is up and undecided.
   pub round-allowed : r ≤ last → (run .undecided ≡ 0 → ⊥) → RoundAllowed (x .n) r (numbered x r) (getD faulty (r - 1) 0) run
-  unfolding runFrom
+  unfolding runOver
   round-allowed g some =
       let w = now .well-formed in
       let speakers : run .speakers ≡ runTo (instanceOf x) (r - 1) .speakers = ap (λ (known : Run). known .speakers) (now .so-far) in
@@ -179,7 +179,7 @@ module _ (x : InstanceTable) (last : ℕ) (faulty : List ℕ) (run : RunTable) (
 
   -- A run that has ended before its last round.
   pub ended-early : run .undecided ≡ 0 → runFrom (x .n) run ≡ runTo (instanceOf x) last
-  unfolding runFrom
+  unfolding runOver
   ended-early none =
       let over : anyUndecided (runTo (instanceOf x) (r - 1) .states) ≡ false =
       ap (λ (known : Run). anyUndecided (known .states)) (sym (now .so-far)) ∙ nobody (x .n) run entries (now .kept) none
@@ -191,6 +191,6 @@ module _ (x : InstanceTable) (last : ℕ) (faulty : List ℕ) (run : RunTable) (
   ended-late g = let all : r - 1 ≡ last = omega (arith, now .at-most) in now .so-far ∙ ap (runTo (instanceOf x)) all
 
 -- The whole run is that to round t + 1.
-pub to-the-last : (x : InstanceTable) (run : RunTable) → runFrom (x .n) run ≡ runTo (instanceOf x) (x .t + 1) → runFrom (x .n) run ≡ runOf (instanceOf x)
+pub to-the-last : (x : InstanceTable) (run : Run) → run ≡ runTo (instanceOf x) (x .t + 1) → run ≡ runOf (instanceOf x)
 unfolding runOf
 to-the-last x run same = let last : x .t + 1 ≡ suc (instanceOf x .resilience) = rw resilience-of (omega arith) in same ∙ ap (runTo (instanceOf x)) last
