@@ -9,11 +9,12 @@ use lib.Seq.{getD-take}
 use Rattle.general.specs.Bits.{member}
 use Rattle.general.proofs.Indexed.{length-mapFrom}
 use Rattle.general.proofs.Sets.{member-none, member-set, first-set, set-same, set-empty}
-use Rattle.consensus.specs.Instance.{Fault, faultOf, proposalOf}
+use Rattle.consensus.specs.Instance.{Fault, CrashPoint, crashes, faultOf, proposalOf}
 use Rattle.consensus.specs.State.{undecided, stateOf}
 use Rattle.coordinator.specs.Undecided.{isUndecided, anyUndecided}
 use Rattle.coordinator.specs.Run.{Run, initial, runTo, runOf}
-use Rattle.coordinator.specs.WellFormed.{WellFormed}
+use Rattle.consensus.specs.WellFormed.{FaultAllowedBy}
+use Rattle.coordinator.specs.WellFormed.{PointAllowed, WellFormed}
 use Rattle.coordinator.proofs.Pointwise.{states-ext, length-states, initial-state}
 use Rattle.coordinator.proofs.Undecided.{none-undecided, not-any}
 use Rattle.coordinator.proofs.Ended.{run-ended}
@@ -132,6 +133,14 @@ module _ (x : InstanceTable) (last : ℕ) (faulty : List ℕ) (run : RunTable) (
             ∙ set-same (x .n) _ _ (λ p h k. rw (its-fault x w p h k) (crashes-by-round r _ _ _ _ (now .first)));
       }
 
+  -- Where its coordinator crashes in it, this is at a point allowed there.
+  coordinator-point : r ≤ x .n → (point : CrashPoint) → numbered x r ≡ crashes r point → PointAllowed (x .n) r r point
+  unfolding FaultAllowedBy
+  coordinator-point here point crash =
+      let w = now .well-formed in
+      let allowed = w .faults-allowed r (now .first) (rw processes-of here) in
+      (rw (its-fault x w r (now .first) here, crash, processes-of x) at allowed) .2
+
   -- Each of rounds 1 to `last` may be run on the table, as long as a process is up and undecided.
   pub round-allowed : r ≤ last → (run .undecided ≡ 0 → ⊥) → RoundAllowed (x .n) r (numbered x r) (getD faulty (r - 1) 0) run
   unfolding runOver
@@ -142,15 +151,13 @@ module _ (x : InstanceTable) (last : ℕ) (faulty : List ℕ) (run : RunTable) (
       let commits-sent : run .«commits_sent» ≡ runTo (instanceOf x) (r - 1) .commitsSent = ap (λ (known : Run). known .commitsSent) (now .so-far) in
       let inside : r - 1 ≤ instanceOf x .processes = rw processes-of (omega arith) in
       let here : r ≤ x .n = omega arith in
-      let allowed = w .faults-allowed r (now .first) (rw processes-of here) in
       record {
         sender =
             record {
               first = now .first;
               last = here;
               at-most-64 = now .at-most-64;
-              resilience = instanceOf x .resilience;
-              allowed = rw (its-fault x w r (now .first) here, processes-of x) at allowed;
+              point-allowed = coordinator-point here;
             };
         instance = instanceOf x;
         of-instance = round-of g;
