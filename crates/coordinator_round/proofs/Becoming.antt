@@ -36,20 +36,20 @@ module _ (end endRound value : ℕ) where
 
 -- Whether a process is in the sets of a round: up, undecided and not crashing in it; deciding; adopting the coordinator's value.
 -- It is undecided as the round begins, its crash round is this one, the coordinator speaks, it coordinates, and the messages to it get so far.
-abbrev pub lives : (waits dies : Bool) → Bool
-lives waits dies = cond waits (not (waits && dies)) (waits && dies)
+abbrev pub stays : (waits crashes : Bool) → Bool
+stays waits crashes = cond waits (not (waits && crashes)) (waits && crashes)
 
-abbrev pub decides : (waits dies speaks coordinates : Bool) → Reach → Bool
-decides waits dies speaks coordinates far = lives waits dies && ((speaks && coordinates) || (speaks && getsCommit far))
+abbrev pub decides : (waits crashes speaks coordinates : Bool) → Reach → Bool
+decides waits crashes speaks coordinates far = stays waits crashes && ((speaks && coordinates) || (speaks && getsCommit far))
 
-abbrev pub adopts : (waits dies speaks : Bool) → Reach → Bool
-adopts waits dies speaks far = lives waits dies && (speaks && getsData far)
+abbrev pub adopts : (waits crashes speaks : Bool) → Reach → Bool
+adopts waits crashes speaks far = stays waits crashes && (speaks && getsData far)
 
 -- What the code stores of it, in round r, with the coordinator's value w.
-abbrev pub storedState : (r w end endRound value : ℕ) (waits dies speaks coordinates : Bool) → Reach → State
-storedState r w end endRound value waits dies speaks coordinates far =
-    stateByEnd (cond (waits && dies) 2 (cond (decides waits dies speaks coordinates far) 1 end))
-    (cond (decides waits dies speaks coordinates far || (waits && dies)) r endRound) (cond (adopts waits dies speaks far) w value)
+abbrev pub storedState : (r w end endRound value : ℕ) (waits crashes speaks coordinates : Bool) → Reach → State
+storedState r w end endRound value waits crashes speaks coordinates far =
+    stateByEnd (cond (waits && crashes) 2 (cond (decides waits crashes speaks coordinates far) 1 end))
+    (cond (decides waits crashes speaks coordinates far || (waits && crashes)) r endRound) (cond (adopts waits crashes speaks far) w value)
 
 -- Process p, with the fault `own`, in round r.
 module _ (r p w endRound value : ℕ) (own : Fault) where
@@ -57,9 +57,9 @@ module _ (r p w endRound value : ℕ) (own : Fault) where
   heard far speaks = arriving far (cond speaks (sends true w) nothing)
 
   -- One up and undecided.
-  become : (dies speaks coordinates : Bool) (far : Reach) → crashesIn r own ≡ dies → eqb p r ≡ coordinates
+  become : (crashes speaks coordinates : Bool) (far : Reach) → crashesIn r own ≡ crashes → eqb p r ≡ coordinates
       → (coordinates ≡ true → speaks ≡ true) → (coordinates ≡ true → far ≡ none)
-      → storedState r w 0 endRound value true dies speaks coordinates far ≡ after r p own (heard far speaks) (stateByEnd 0 endRound value)
+      → storedState r w 0 endRound value true crashes speaks coordinates far ≡ after r p own (heard far speaks) (stateByEnd 0 endRound value)
   unfolding stateByEnd after afterOutcome receives arriving sends getsData getsCommit
   become true speaks coordinates far e c one two = rw e
   become false false true far e c one two = absurd (false≢true (one refl))
@@ -74,19 +74,19 @@ module _ (r p w endRound value : ℕ) (own : Fault) where
   become false true false all e c one two = rw (e, c)
 
   -- Any process.
-  pub becomes : (end : ℕ) (waits dies speaks coordinates : Bool) (far : Reach) → eqb end 0 ≡ waits → crashesIn r own ≡ dies → eqb p r ≡ coordinates
+  pub becomes : (end : ℕ) (waits crashes speaks coordinates : Bool) (far : Reach) → eqb end 0 ≡ waits → crashesIn r own ≡ crashes → eqb p r ≡ coordinates
       → (coordinates ≡ true → speaks ≡ waits) → (coordinates ≡ true → far ≡ none)
-      → storedState r w end endRound value waits dies speaks coordinates far ≡ after r p own (heard far speaks) (stateByEnd end endRound value)
-  becomes end true dies speaks coordinates far u e c one two = rw (eqb-true end 0 u) (become dies speaks coordinates far e c one two)
-  becomes end false dies speaks coordinates far u e c one two =
+      → storedState r w end endRound value waits crashes speaks coordinates far ≡ after r p own (heard far speaks) (stateByEnd end endRound value)
+  becomes end true crashes speaks coordinates far u e c one two = rw (eqb-true end 0 u) (become crashes speaks coordinates far e c one two)
+  becomes end false crashes speaks coordinates far u e c one two =
       sym (after-ended r p own (heard far speaks) (stateByEnd end endRound value) (rw (undecided-end end endRound value) u))
 
--- It is still undecided just if it lives and does not decide.
-pub still-undecided : (end endRound value : ℕ) (waits dies decides : Bool) → eqb end 0 ≡ waits
-    → cond (lives waits dies) (not (lives waits dies && decides)) (lives waits dies && decides)
-    ≡ isUndecided (stateByEnd (cond (waits && dies) 2 (cond (lives waits dies && decides) 1 end)) endRound value)
+-- It is still undecided just if it stays and does not decide.
+pub still-undecided : (end endRound value : ℕ) (waits crashes decides : Bool) → eqb end 0 ≡ waits
+    → cond (stays waits crashes) (not (stays waits crashes && decides)) (stays waits crashes && decides)
+    ≡ isUndecided (stateByEnd (cond (waits && crashes) 2 (cond (stays waits crashes && decides) 1 end)) endRound value)
 unfolding isUndecided stateByEnd
-still-undecided end endRound value false dies decides u = sym u ∙ sym (undecided-end end endRound value)
+still-undecided end endRound value false crashes decides u = sym u ∙ sym (undecided-end end endRound value)
 still-undecided end endRound value true true decides u = refl
 still-undecided end endRound value true false true u = refl
 still-undecided end endRound value true false false u = sym u ∙ sym (undecided-end end endRound value)

@@ -26,7 +26,7 @@ use Rattle.coordinator.specs.Run.{withRound}
 use Rattle.coordinator.proofs.CountsReached.{counts-reached}
 use Rattle.coordinator.proofs.Pointwise.{receivedIn, states-ext, round-state}
 use Rattle.tables.specs.declared.RunTable.{RunTable}
-use Rattle.tables.specs.RunOfTable.{statesIn, runFrom}
+use Rattle.tables.specs.RunOfTable.{statesIn, runOver, runFrom}
 use Rattle.tables.proofs.Places.{length-states-over, state-over}
 use Rattle.coordinator_sending.specs.declared.Sent.{Sent}
 use Rattle.coordinator_sending.specs.Sending.{sendingBy}
@@ -46,8 +46,8 @@ none-to-itself : (n r p : ℕ) (fault : Fault) → eqb p r ≡ true → reach n 
 unfolding reach
 none-to-itself n r p fault e = let same : p ≡ r = eqb-true p r e in let below : p ≤ r = omega arith in rw (le-ltb r p below)
 
-module _ (n r : ℕ) (fault : Fault) (dying : ℕ) (run next : RunTable) (sized : Sized run) (allowed : RoundAllowed n r fault run)
-    (stored : Stored r (sendingBy n r fault (member r (run .undecided))) dying run next (cond (member r (run .undecided)) 1 0)) where
+module _ (n r : ℕ) (fault : Fault) (faulty : ℕ) (run next : RunTable) (sized : Sized run) (allowed : RoundAllowed n r fault faulty run)
+    (stored : Stored r (sendingBy n r fault (member r (run .undecided))) faulty run next (cond (member r (run .undecided)) 1 0)) where
   abbrev states : List State
   states = statesIn n run
 
@@ -60,37 +60,37 @@ module _ (n r : ℕ) (fault : Fault) (dying : ℕ) (run next : RunTable) (sized 
   speaker : member r (run .undecided) ≡ speaks r states
   unfolding speaks
   speaker =
-      waits-as n r fault run sized allowed r (allowed .sender .first) (allowed .sender .last)
+      waits-as n r fault faulty run sized allowed r (allowed .sender .first) (allowed .sender .last)
       ∙ sym (ap isUndecided (state-over n _ _ _ entries r (allowed .sender .first) (allowed .sender .last)) ∙ undecided-end _ _ _)
 
-  module _ (x : Instance) (of : RoundOf x n r fault dying) where
+  module _ (x : Instance) (of : RoundOf x n r fault faulty) where
     -- What process p hears.
     hears : (p : ℕ) → receivedIn x r (stateOf states r) p
         ≡ arriving (reach n fault r p) (cond (member r (run .undecided)) (sends true (getD (run .values) (r - 1) 0)) nothing)
     unfolding received
     hears p =
-        let speaks-as = waits-as n r fault run sized allowed r (allowed .sender .first) (allowed .sender .last) in
+        let speaks-as = waits-as n r fault faulty run sized allowed r (allowed .sender .first) (allowed .sender .last) in
         rw (of .coordinator, of .processes, state-over n _ _ _ entries r (allowed .sender .first) (allowed .sender .last), sent-by-end, speaks-as)
 
     -- The states, process by process.
     state-as : (p : ℕ) → 1 ≤ p → p ≤ n → stateOf (statesIn n next) p ≡ stateOf (statesAfter x r states) p
     state-as p h g =
-        let dies : crashesIn r (faultOf x p) ≡ member p dying = sym (ap (member p) (of .crashing) ∙ member-set n _ p h g) in
+        let crashes : crashesIn r (faultOf x p) ≡ member p faulty = sym (ap (member p) (of .crashing) ∙ member-set n _ p h g) in
         let one : eqb p r ≡ true → member r (run .undecided) ≡ eqb (getD (run .ends) (p - 1) 0) 0 =
-        λ e. ap (λ (q : ℕ). member q (run .undecided)) (sym (eqb-true p r e)) ∙ waits-as n r fault run sized allowed p h g
+        λ e. ap (λ (q : ℕ). member q (run .undecided)) (sym (eqb-true p r e)) ∙ waits-as n r fault faulty run sized allowed p h g
         in
         let becoming = becomes r p (getD (run .values) (r - 1) 0) (getD (run .«end_rounds») (p - 1) 0) (getD (run .values) (p - 1) 0) (faultOf x p)
-        (getD (run .ends) (p - 1) 0) _ (member p dying) (member r (run .undecided)) (eqb p r) (reach n fault r p) refl dies refl one
+        (getD (run .ends) (p - 1) 0) _ (member p faulty) (member r (run .undecided)) (eqb p r) (reach n fault r p) refl crashes refl one
         (none-to-itself n r p fault)
         in
-        state-after n r fault dying run next _ sized allowed stored p h g ∙ becoming
+        state-after n r fault faulty run next _ sized allowed stored p h g ∙ becoming
         ∙ sym (round-state x r p states h (omega (arith, as-many)) ∙ rw (hears p, state-over n _ _ _ entries p h g))
 
     states-as : statesIn n next ≡ statesAfter x r states
     unfolding statesAfter
     states-as =
         let entries-next : n ≤ length (next .ends) =
-        omega (arith, allowed .sender .at-most-64, sized-next n r fault dying run next _ sized allowed stored .ends)
+        omega (arith, allowed .sender .at-most-64, sized-next n r fault faulty run next _ sized allowed stored .ends)
         in
         states-ext n (statesIn n next) _ (length-states-over n _ _ _ entries-next) (length-mapFrom _ 1 states ∙ as-many) state-as
 
@@ -104,7 +104,7 @@ module _ (n r : ℕ) (fault : Fault) (dying : ℕ) (run next : RunTable) (sized 
         ∙ sym (as-reached r states (allowed .sender .first) last (as-many ∙ sym (of .processes)) ∙ rw (of .coordinator, of .processes, ← speaker))
 
     round-as : runFrom n next ≡ withRound x r (runFrom n run)
-    unfolding runFrom withRound sendingBy
+    unfolding runOver withRound sendingBy
     round-as =
         let reached = counts-reached x (of .well-formed) in
         let data-sent = counted-as dataIn getsData (reached .dataOfRound) in
@@ -112,15 +112,15 @@ module _ (n r : ℕ) (fault : Fault) (dying : ℕ) (run next : RunTable) (sized 
         rw (states-as, stored .rounds, stored .speakers-added, stored .data-added, stored .commits-added)
         (rw (allowed .some-undecided, data-sent, commits-sent, speaker))
 
-  pub round-done : RoundRun n r fault dying run next
-  round-done = record { kept = kept-after n r fault dying run next _ sized allowed stored; round = round-as }
+  pub round-done : RoundRun n r fault faulty run next
+  round-done = record { kept = kept-after n r fault faulty run next _ sized allowed stored; round = round-as }
 
 -- The same, of the sets and the count of speakers that the code has got from its callees.
-pub round-from : (n r : ℕ) (fault : Fault) (dying : ℕ) (run next : RunTable) → Sized run → RoundAllowed n r fault run
+pub round-from : (n r : ℕ) (fault : Fault) (faulty : ℕ) (run next : RunTable) → Sized run → RoundAllowed n r fault faulty run
     → (sent : Sent) → sent ≡ sendingBy n r fault (member r (run .undecided)) → (speakers : ℕ) → speakers ≡ cond (member r (run .undecided)) 1 0
-    → Stored r sent dying run next speakers → RoundRun n r fault dying run next
-round-from n r fault dying run next sized allowed sent of-sent speakers of-speakers stored =
-    round-done n r fault dying run next sized allowed (rw (of-sent, of-speakers) at stored)
+    → Stored r sent faulty run next speakers → RoundRun n r fault faulty run next
+round-from n r fault faulty run next sized allowed sent of-sent speakers of-speakers stored =
+    round-done n r fault faulty run next sized allowed (rw (of-sent, of-speakers) at stored)
 
 -- A coordinator is one speaker at most.
 pub at-most-one : (r undecided k : ℕ) → k ≡ cond (member r undecided) 1 0 → k ≤ 1

@@ -16,24 +16,26 @@ use Rattle.coordinator_sending.specs.Sending.{SendingAllowed}
 abbrev pub undecidedSet : ℕ → RunTable → ℕ
 undecidedSet n run = setOf n (λ p. isUndecided (stateOf (statesIn n run) p))
 
--- Round r of n processes, whose coordinator has this fault, may be run on this table: it begins with a process up and undecided, the table's set of these
--- is that of its arrays, and its counts have room for one round more.
-pub record RoundAllowed (n r : ℕ) (fault : Fault) (run : RunTable) : Type 0 where
+-- Of a well-formed instance these are n, the fault of round r's coordinator and the set of the processes that crash in round r.
+pub record RoundOf (x : Instance) (n r : ℕ) (fault : Fault) (faulty : ℕ) : Type 0 where
+  pub well-formed : WellFormed x
+  pub processes : x .processes ≡ n
+  pub coordinator : faultOf x r ≡ fault
+  pub crashing : faulty ≡ setOf n (λ p. crashesIn r (faultOf x p))
+
+-- Round r of n processes, whose coordinator has this fault and in which these crash, may be run on this table: there is an instance of which they are, the
+-- round begins with a process up and undecided, the table's set of these is that of its arrays, and its counts have room for one round more.
+pub record RoundAllowed (n r : ℕ) (fault : Fault) (faulty : ℕ) (run : RunTable) : Type 0 where
   pub sender : SendingAllowed n r fault
+  pub instance : Instance
+  pub of-instance : RoundOf instance n r fault faulty
   pub some-undecided : anyUndecided (statesIn n run) ≡ true
   pub kept : run .undecided ≡ undecidedSet n run
   pub speakers : run .speakers < 255
   pub data-sent : run .«data_sent» < 65280
   pub commits-sent : run .«commits_sent» < 65280
 
--- Of a well-formed instance these are n, the fault of round r's coordinator and the set of the processes that crash in round r.
-pub record RoundOf (x : Instance) (n r : ℕ) (fault : Fault) (dying : ℕ) : Type 0 where
-  pub well-formed : WellFormed x
-  pub processes : x .processes ≡ n
-  pub coordinator : faultOf x r ≡ fault
-  pub crashing : dying ≡ setOf n (λ p. crashesIn r (faultOf x p))
-
 -- Round r has been run from the one table to the other: its set is that of its arrays again, and of each such instance it holds one round more.
-pub record RoundRun (n r : ℕ) (fault : Fault) (dying : ℕ) (run next : RunTable) : Type 0 where
+pub record RoundRun (n r : ℕ) (fault : Fault) (faulty : ℕ) (run next : RunTable) : Type 0 where
   pub kept : next .undecided ≡ undecidedSet n next
-  pub round : (x : Instance) → RoundOf x n r fault dying → runFrom n next ≡ withRound x r (runFrom n run)
+  pub round : (x : Instance) → RoundOf x n r fault faulty → runFrom n next ≡ withRound x r (runFrom n run)

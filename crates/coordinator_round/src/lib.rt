@@ -5,7 +5,7 @@ use coordinator_sending::count;
 use tables::RunTable;
 
 // Round r of n processes, which begins with a process up and undecided: the run as it begins, to the run as it ends, with its message counts.
-// The numbers are those of the coordinator's fault, and `dying` is the set of the processes whose crash round is r.
+// The numbers are those of the coordinator's fault, and `faulty` is the set of the processes whose crash round is r.
 pub fn run_round(
     n: u8,
     r: u8,
@@ -13,26 +13,26 @@ pub fn run_round(
     step: u8,
     set: u64,
     count: u8,
-    dying: u64,
+    faulty: u64,
     run: RunTable,
 ) -> RunTable
-    requires { ⌜ RoundAllowed n r (faultFrom round step set count) run ⌝ }
-    ensures { λ next. ⌜ RoundRun n r (faultFrom round step set count) dying run next ⌝ }
+    requires { ⌜ RoundAllowed n r (faultFrom round step set count) faulty run ⌝ }
+    ensures { λ next. ⌜ RoundRun n r (faultFrom round step set count) faulty run next ⌝ }
 {
     let mut next = run;
     let value = next.values[(r - 1) as usize];
     let sent = coordinator_sending::sending(n, r, round, step, set, count, next.undecided);
-    let crashing = next.undecided & dying;
-    let live = next.undecided ^ crashing;
-    let deciding = live & (sent.coordinator | sent.committed);
+    let crashing = next.undecided & faulty;
+    let staying = next.undecided ^ crashing;
+    let deciding = staying & (sent.coordinator | sent.committed);
     next.rounds = r;
     next.speakers += count::speakers_in(r, next.undecided);
     next.data_sent += sets::size(sent.reached) as u16;
     next.commits_sent += sets::size(sent.committed) as u16;
-    sets::fill_words(&mut next.values, live & sent.reached, value);
+    sets::fill_words(&mut next.values, staying & sent.reached, value);
     sets::fill_bytes(&mut next.ends, deciding, tables::DECIDED);
     sets::fill_bytes(&mut next.ends, crashing, tables::CRASHED);
     sets::fill_bytes(&mut next.end_rounds, deciding | crashing, r);
-    next.undecided = live ^ deciding;
+    next.undecided = staying ^ deciding;
     next
 }

@@ -16,6 +16,7 @@ use Rattle.tables.specs.InstanceOfTable.{tableOf, faultFrom, faultIn, instanceO
 use Rattle.tables.specs.RunOfTable.{stateByEnd, stateOver, statesOver, statesIn}
 use Rattle.tables.proofs.Places.{length-pattern, length-states-over, fault-at, state-over}
 use Rattle.coordinator_sending.proofs.Counting.{by-round-and-end}
+use Rattle.coordinator_run.specs.CrashCountOver.{faultsBy, statesBy, crashCountOver}
 
 -- The faults and the states from process p on.
 abbrev restCount : List Fault → List State → ℕ → ℕ
@@ -37,19 +38,12 @@ none-left faults states p h = rw (drop-of-length-le faults {i = p - 1} (omega ar
 pub counted-once : (own end endRound k : ℕ) → k ≡ countsAsCrash (faultFrom own 0 0 0) (stateByEnd end endRound 0) → k ≤ 1
 counted-once own end endRound k e = rw e (counts-once (faultFrom own 0 0 0) (stateByEnd end endRound 0))
 
--- The instance and the run, as far as they matter to f, that arrays of crash rounds, of ends and of the rounds of these stand for.
-abbrev pub faultsBy : ℕ → List ℕ → List Fault
-faultsBy n rounds = instanceOf (tableOf n 0 [] rounds [] [] []) .pattern
-
-abbrev pub statesBy : ℕ → (ends endRounds : List ℕ) → List State
-statesBy n ends endRounds = statesOver n ends endRounds []
-
 -- f counts the processes below p.
 pub record CountedBelow (n : ℕ) (rounds ends endRounds : List ℕ) (f p : ℕ) : Type 0 where
   pub first : 1 ≤ p
   pub last : p ≤ n + 1
   pub at-most : f < p
-  pub rest : f + restCount (faultsBy n rounds) (statesBy n ends endRounds) p ≡ crashCount (faultsBy n rounds) (statesBy n ends endRounds)
+  pub rest : f + restCount (faultsBy n rounds) (statesBy n ends endRounds) p ≡ crashCountOver n rounds ends endRounds
 
 module _ (n : ℕ) (rounds ends endRounds : List ℕ) where
   pub counted-none : CountedBelow n rounds ends endRounds 0 1
@@ -59,7 +53,7 @@ module _ (n : ℕ) (rounds ends endRounds : List ℕ) where
     as-many : length (faultsBy n rounds) ≡ n
     as-many = length-pattern (tableOf n 0 [] rounds [] [] []) faults
 
-    pub counted-all : (f p : ℕ) → CountedBelow n rounds ends endRounds f p → n < p → f ≡ crashCount (faultsBy n rounds) (statesBy n ends endRounds)
+    pub counted-all : (f p : ℕ) → CountedBelow n rounds ends endRounds f p → n < p → f ≡ crashCountOver n rounds ends endRounds
     counted-all f p so-far h = omega (arith, so-far .rest, none-left (faultsBy n rounds) (statesBy n ends endRounds) p (omega (arith, as-many)))
 
     -- One process more.
@@ -91,8 +85,8 @@ module _ (f f′ : ℕ → ℕ → Fault) (g g′ : ℕ → ℕ → State)
   counts-alike p (own ∷ rounds) [] = refl
   counts-alike p (own ∷ rounds) (end ∷ ends) = ap₂ (λ (a b : ℕ). a + b) (alike p own end) (counts-alike (suc p) rounds ends)
 
--- Which messages a crash cuts and which values are held does not matter to f.
-pub counts-by-rounds : (x : InstanceTable) (run : RunTable) → crashCount (faultsBy (x .n) (x .«crash_rounds»)) (statesBy (x .n) (run .ends) (run .«end_rounds»))
+-- Which messages a crash cuts and which values are held does not matter to f: of any table with these crash rounds, ends and rounds of these it is the same.
+pub counts-by-rounds : (x : InstanceTable) (run : RunTable) → crashCountOver (x .n) (x .«crash_rounds») (run .ends) (run .«end_rounds»)
     ≡ crashCount (instanceOf x .pattern) (statesIn (x .n) run)
 unfolding instanceOf statesOver faultIn stateOver
 counts-by-rounds x run =

@@ -9,11 +9,12 @@ use lib.Seq.{getD-take}
 use Rattle.general.specs.Bits.{member}
 use Rattle.general.proofs.Indexed.{length-mapFrom}
 use Rattle.general.proofs.Sets.{member-none, member-set, first-set, set-same, set-empty}
-use Rattle.consensus.specs.Instance.{Fault, faultOf, proposalOf}
+use Rattle.consensus.specs.Instance.{Fault, CrashPoint, crashes, faultOf, proposalOf}
 use Rattle.consensus.specs.State.{undecided, stateOf}
 use Rattle.coordinator.specs.Undecided.{isUndecided, anyUndecided}
 use Rattle.coordinator.specs.Run.{Run, initial, runTo, runOf}
-use Rattle.coordinator.specs.WellFormed.{WellFormed}
+use Rattle.consensus.specs.WellFormed.{FaultAllowedBy}
+use Rattle.coordinator.specs.WellFormed.{PointAllowed, WellFormed}
 use Rattle.coordinator.proofs.Pointwise.{states-ext, length-states, initial-state}
 use Rattle.coordinator.proofs.Undecided.{none-undecided, not-any}
 use Rattle.coordinator.proofs.Ended.{run-ended}
@@ -21,7 +22,7 @@ use Rattle.coordinator.proofs.Counts.{speakers-le, data-sent-le, commits-sent-l
 use Rattle.tables.specs.declared.InstanceTable.{InstanceTable}
 use Rattle.tables.specs.declared.RunTable.{RunTable}
 use Rattle.tables.specs.InstanceOfTable.{faultFrom, instanceOf}
-use Rattle.tables.specs.RunOfTable.{stateByEnd, stateOver, statesOver, statesIn, runFrom}
+use Rattle.tables.specs.RunOfTable.{stateByEnd, stateOver, statesOver, statesIn, runOver, runFrom}
 use Rattle.tables.proofs.Places.{processes-of, resilience-of, fault-at, state-over, length-states-over}
 use Rattle.coordinator_sending.proofs.Cases.{crashes-by-round}
 use Rattle.coordinator_run.specs.CrashSets.{CrashSets}
@@ -29,11 +30,11 @@ use Rattle.coordinator_round.specs.Round.{undecidedSet, RoundAllowed, RoundOf, 
 use Rattle.coordinator_run.proofs.Reading.{limits, rounds-fit}
 
 -- The run as round r begins, one of rounds 1 to `last` or the one after them; and the sets of those that crash in each round.
-pub record AtRound (x : InstanceTable) (last : ℕ) (dying : List ℕ) (run : RunTable) (r : ℕ) : Type 0 where
+pub record AtRound (x : InstanceTable) (last : ℕ) (faulty : List ℕ) (run : RunTable) (r : ℕ) : Type 0 where
   pub well-formed : WellFormed (instanceOf x)
   pub last-process : last ≤ x .n
   pub at-most-64 : x .n ≤ 64
-  pub crashing : CrashSets (x .n) (x .«crash_rounds») dying
+  pub crashing : CrashSets (x .n) (x .«crash_rounds») faulty
   pub first : 1 ≤ r
   pub at-most : r ≤ last + 1
   pub kept : run .undecided ≡ undecidedSet (x .n) run
@@ -48,8 +49,8 @@ module _ (x : InstanceTable) (w : WellFormed (instanceOf x)) where
   its-fault p h g = fault-at x p (rounds-fit x w) h g
 
 -- A table whose ends and counts are 0 and whose values are the proposals is that of the run as round 1 begins.
-module _ (x : InstanceTable) (last : ℕ) (dying : List ℕ) (run : RunTable) (w : WellFormed (instanceOf x)) (within : last ≤ x .t + 1)
-    (crashing : CrashSets (x .n) (x .«crash_rounds») dying) (entries : length (run .ends) ≡ 64)
+module _ (x : InstanceTable) (last : ℕ) (faulty : List ℕ) (run : RunTable) (w : WellFormed (instanceOf x)) (within : last ≤ x .t + 1)
+    (crashing : CrashSets (x .n) (x .«crash_rounds») faulty) (entries : length (run .ends) ≡ 64)
     (none-ended : (i : ℕ) → i < 64 → getD (run .ends) i 0 ≡ 0) (values : run .values ≡ x .values) where
   fits : x .n ≤ length (run .ends)
   fits = omega (arith, limits x w, entries)
@@ -75,8 +76,8 @@ module _ (x : InstanceTable) (last : ℕ) (dying : List ℕ) (run : RunTable) (w
   all-undecided = first-set (x .n) ∙ set-same (x .n) _ _ (λ p h g. sym (ap isUndecided (start-state p h g)))
 
   pub at-first-round : run .rounds ≡ 0 → run .speakers ≡ 0 → run .«data_sent» ≡ 0 → run .«commits_sent» ≡ 0 → run .undecided ≡ 2 ^ (x .n) - 1
-      → AtRound x last dying run 1
-  unfolding runFrom runTo initial
+      → AtRound x last faulty run 1
+  unfolding runOver runTo initial
   at-first-round rounds speakers data-sent commits-sent first-n =
       record {
         well-formed = w;
@@ -108,10 +109,10 @@ module _ (n : ℕ) (run : RunTable) (entries : n ≤ length (run .ends)) (kept :
       by-test true e = refl
       by-test false e = absurd (some (kept ∙ sym (set-empty n _ (λ p _ _. none-undecided (statesIn n run) p e))))
 
-module _ (x : InstanceTable) (last : ℕ) (dying : List ℕ) (run : RunTable) (r : ℕ) (now : AtRound x last dying run r) where
+module _ (x : InstanceTable) (last : ℕ) (faulty : List ℕ) (run : RunTable) (r : ℕ) (now : AtRound x last faulty run r) where
   -- The table has an end for each process, as the run has a state for each.
   entries : x .n ≤ length (run .ends)
-  unfolding runFrom statesOver
+  unfolding runOver statesOver
   entries =
       let size : length (statesIn (x .n) run) ≡ x .n =
       ap (λ (known : Run). length (known .states)) (now .so-far) ∙ length-states (instanceOf x) (r - 1)
@@ -119,35 +120,8 @@ module _ (x : InstanceTable) (last : ℕ) (dying : List ℕ) (run : RunTable) (r
       in
       omega (arith, size, length-mapFrom (stateOver (run .«end_rounds») (run .values)) 1 (take (x .n) (run .ends)), length-take (x .n) (run .ends))
 
-  -- Each of rounds 1 to `last` may be run on the table, as long as a process is up and undecided.
-  pub round-allowed : r ≤ last → (run .undecided ≡ 0 → ⊥) → RoundAllowed (x .n) r (numbered x r) run
-  unfolding runFrom
-  round-allowed g some =
-      let w = now .well-formed in
-      let speakers : run .speakers ≡ runTo (instanceOf x) (r - 1) .speakers = ap (λ (known : Run). known .speakers) (now .so-far) in
-      let data-sent : run .«data_sent» ≡ runTo (instanceOf x) (r - 1) .dataSent = ap (λ (known : Run). known .dataSent) (now .so-far) in
-      let commits-sent : run .«commits_sent» ≡ runTo (instanceOf x) (r - 1) .commitsSent = ap (λ (known : Run). known .commitsSent) (now .so-far) in
-      let inside : r - 1 ≤ instanceOf x .processes = rw processes-of (omega arith) in
-      let here : r ≤ x .n = omega arith in
-      let allowed = w .faults-allowed r (now .first) (rw processes-of here) in
-      record {
-        sender =
-            record {
-              first = now .first;
-              last = here;
-              at-most-64 = now .at-most-64;
-              resilience = instanceOf x .resilience;
-              allowed = rw (its-fault x w r (now .first) here, processes-of x) at allowed;
-            };
-        some-undecided = somebody (x .n) run entries (now .kept) some;
-        kept = now .kept;
-        speakers = omega (arith, speakers-le (instanceOf x) (r - 1));
-        data-sent = omega (arith, data-sent-le (instanceOf x) w (r - 1) inside);
-        commits-sent = omega (arith, commits-sent-le (instanceOf x) w (r - 1) inside);
-      }
-
   -- What the code takes for round r is that of the instance.
-  round-of : r ≤ last → RoundOf (instanceOf x) (x .n) r (numbered x r) (getD dying (r - 1) 0)
+  round-of : r ≤ last → RoundOf (instanceOf x) (x .n) r (numbered x r) (getD faulty (r - 1) 0)
   round-of g =
       let w = now .well-formed in
       record {
@@ -159,7 +133,42 @@ module _ (x : InstanceTable) (last : ℕ) (dying : List ℕ) (run : RunTable) (r
             ∙ set-same (x .n) _ _ (λ p h k. rw (its-fault x w p h k) (crashes-by-round r _ _ _ _ (now .first)));
       }
 
-  pub at-next-round : (next : RunTable) → r ≤ last → RoundRun (x .n) r (numbered x r) (getD dying (r - 1) 0) run next → AtRound x last dying next (r + 1)
+  -- Where its coordinator crashes in it, this is at a point allowed there.
+  coordinator-point : r ≤ x .n → (point : CrashPoint) → numbered x r ≡ crashes r point → PointAllowed (x .n) r r point
+  unfolding FaultAllowedBy
+  coordinator-point here point crash =
+      let w = now .well-formed in
+      let allowed = w .faults-allowed r (now .first) (rw processes-of here) in
+      (rw (its-fault x w r (now .first) here, crash, processes-of x) at allowed) .2
+
+  -- Each of rounds 1 to `last` may be run on the table, as long as a process is up and undecided.
+  pub round-allowed : r ≤ last → (run .undecided ≡ 0 → ⊥) → RoundAllowed (x .n) r (numbered x r) (getD faulty (r - 1) 0) run
+  unfolding runOver
+  round-allowed g some =
+      let w = now .well-formed in
+      let speakers : run .speakers ≡ runTo (instanceOf x) (r - 1) .speakers = ap (λ (known : Run). known .speakers) (now .so-far) in
+      let data-sent : run .«data_sent» ≡ runTo (instanceOf x) (r - 1) .dataSent = ap (λ (known : Run). known .dataSent) (now .so-far) in
+      let commits-sent : run .«commits_sent» ≡ runTo (instanceOf x) (r - 1) .commitsSent = ap (λ (known : Run). known .commitsSent) (now .so-far) in
+      let inside : r - 1 ≤ instanceOf x .processes = rw processes-of (omega arith) in
+      let here : r ≤ x .n = omega arith in
+      record {
+        sender =
+            record {
+              first = now .first;
+              last = here;
+              at-most-64 = now .at-most-64;
+              point-allowed = coordinator-point here;
+            };
+        instance = instanceOf x;
+        of-instance = round-of g;
+        some-undecided = somebody (x .n) run entries (now .kept) some;
+        kept = now .kept;
+        speakers = omega (arith, speakers-le (instanceOf x) (r - 1));
+        data-sent = omega (arith, data-sent-le (instanceOf x) w (r - 1) inside);
+        commits-sent = omega (arith, commits-sent-le (instanceOf x) w (r - 1) inside);
+      }
+
+  pub at-next-round : (next : RunTable) → r ≤ last → RoundRun (x .n) r (numbered x r) (getD faulty (r - 1) 0) run next → AtRound x last faulty next (r + 1)
   unfolding runTo
   at-next-round next g done =
       let number : r + 1 - 1 ≡ suc (r - 1) = omega arith in
@@ -177,7 +186,7 @@ module _ (x : InstanceTable) (last : ℕ) (dying : List ℕ) (run : RunTable) (r
 
   -- A run that has ended before its last round.
   pub ended-early : run .undecided ≡ 0 → runFrom (x .n) run ≡ runTo (instanceOf x) last
-  unfolding runFrom
+  unfolding runOver
   ended-early none =
       let over : anyUndecided (runTo (instanceOf x) (r - 1) .states) ≡ false =
       ap (λ (known : Run). anyUndecided (known .states)) (sym (now .so-far)) ∙ nobody (x .n) run entries (now .kept) none
@@ -189,6 +198,6 @@ module _ (x : InstanceTable) (last : ℕ) (dying : List ℕ) (run : RunTable) (r
   ended-late g = let all : r - 1 ≡ last = omega (arith, now .at-most) in now .so-far ∙ ap (runTo (instanceOf x)) all
 
 -- The whole run is that to round t + 1.
-pub to-the-last : (x : InstanceTable) (run : RunTable) → runFrom (x .n) run ≡ runTo (instanceOf x) (x .t + 1) → runFrom (x .n) run ≡ runOf (instanceOf x)
+pub to-the-last : (x : InstanceTable) (run : Run) → run ≡ runTo (instanceOf x) (x .t + 1) → run ≡ runOf (instanceOf x)
 unfolding runOf
 to-the-last x run same = let last : x .t + 1 ≡ suc (instanceOf x .resilience) = rw resilience-of (omega arith) in same ∙ ap (runTo (instanceOf x)) last

@@ -1,15 +1,15 @@
 // The rounds of an instance one after the other, until no process is both up and undecided (document 01, 'A round'), and f.
 // The instance's arrays are lent; the run is a table by value that goes through each round and comes back.
-ghost use mathlib.Core.List.{[]};
 ghost use mathlib.Core.Path.{_≡_};
 ghost use Prim.Native.Nat.{_+_, _≤_};
 ghost use lib.ListN.{length};
-ghost use Rattle.consensus.specs.CrashCount.{crashCount};
 ghost use Rattle.coordinator.specs.Run.{runTo, runOf};
 ghost use Rattle.coordinator.specs.WellFormed.{WellFormed};
 ghost use Rattle.tables.specs.InstanceOfTable.{tableOf, instanceOf};
-ghost use Rattle.tables.specs.RunOfTable.{statesOver, runFrom};
+ghost use Rattle.tables.specs.RunOfTable.{runFrom};
+ghost use Rattle.coordinator_round.specs.Round.{undecidedSet};
 ghost use Rattle.coordinator_run.specs.CrashSets.{CrashSets};
+ghost use Rattle.coordinator_run.specs.CrashCountOver.{crashCountOver};
 use coordinator_sending::count;
 use tables::RunTable;
 
@@ -33,7 +33,8 @@ fn crash_sets(n: u8, crash_rounds: &[u8; 64]) -> [u64; 64]
     by_round
 }
 
-// The run after rounds 1 to `last`, or after the earlier round by which no process is both up and undecided. Before round 1 every process holds its proposal.
+// The run after rounds 1 to `last`, or after the earlier round by which no process is both up and undecided, and the set of those that are.
+// Before round 1 every process holds its proposal.
 pub fn run_to<'a>(
     n: u8,
     t: u8,
@@ -45,10 +46,11 @@ pub fn run_to<'a>(
     counts: &'a [u8; 64],
 ) -> RunTable
     requires { ⌜ WellFormed (instanceOf (tableOf n t values (now «crash_rounds») (now steps) (now reached) (now counts))) × (last ≤ t + 1) ⌝ }
-    ensures { λ run. ⌜ runFrom n run
-        ≡ runTo (instanceOf (tableOf n t values (now («crash_rounds» .entry)) (now (steps .entry)) (now (reached .entry)) (now (counts .entry)))) last ⌝ }
+    ensures { λ run. ⌜ (runFrom n run
+        ≡ runTo (instanceOf (tableOf n t values (now («crash_rounds» .entry)) (now (steps .entry)) (now (reached .entry)) (now (counts .entry)))) last)
+        × (run .undecided ≡ undecidedSet n run) ⌝ }
 {
-    let dying = crash_sets(n, crash_rounds);
+    let faulty = crash_sets(n, crash_rounds);
     let mut run = RunTable {
         ends: [tables::UNDECIDED; 64],
         end_rounds: [0; 64],
@@ -72,7 +74,7 @@ pub fn run_to<'a>(
             steps[i],
             reached[i],
             counts[i],
-            dying[i],
+            faulty[i],
             run,
         );
         r += 1;
@@ -80,7 +82,7 @@ pub fn run_to<'a>(
     run
 }
 
-// The whole run: rounds 1 to t + 1.
+// The whole run: rounds 1 to t + 1, and the set of the processes then up and undecided, as `run_to` has it.
 pub fn run_all<'a>(
     n: u8,
     t: u8,
@@ -91,13 +93,14 @@ pub fn run_all<'a>(
     counts: &'a [u8; 64],
 ) -> RunTable
     requires { ⌜ WellFormed (instanceOf (tableOf n t values (now «crash_rounds») (now steps) (now reached) (now counts))) ⌝ }
-    ensures { λ run. ⌜ runFrom n run
-        ≡ runOf (instanceOf (tableOf n t values (now («crash_rounds» .entry)) (now (steps .entry)) (now (reached .entry)) (now (counts .entry)))) ⌝ }
+    ensures { λ run. ⌜ (runFrom n run
+        ≡ runOf (instanceOf (tableOf n t values (now («crash_rounds» .entry)) (now (steps .entry)) (now (reached .entry)) (now (counts .entry)))))
+        × (run .undecided ≡ undecidedSet n run) ⌝ }
 {
     run_to(n, t, values, t + 1, crash_rounds, steps, reached, counts)
 }
 
-// f: the failure lines that are not idle, given the last states. Steps, sets, counts and values do not matter: the definition is taken at none.
+// f: the failure lines that are not idle, given the last states. It looks at the crash rounds, the ends and the rounds of these alone.
 // (That the arrays have so many places is in their types; a proof is not told so of an array that is lent, so the contract says it.)
 pub fn crash_count<'a>(
     n: u8,
@@ -106,9 +109,7 @@ pub fn crash_count<'a>(
     end_rounds: &'a [u8; 64],
 ) -> u8
     requires { ⌜ (n ≤ 64) × (n ≤ length (now «crash_rounds»)) × (n ≤ length (now ends)) ⌝ }
-    ensures { λ f. ⌜ f
-        ≡ crashCount (instanceOf (tableOf n 0 [] (now («crash_rounds» .entry)) [] [] []) .pattern)
-        (statesOver n (now (ends .entry)) (now («end_rounds» .entry)) []) ⌝ }
+    ensures { λ f. ⌜ f ≡ crashCountOver n (now («crash_rounds» .entry)) (now (ends .entry)) (now («end_rounds» .entry)) ⌝ }
 {
     let mut f: u8 = 0;
     let mut p: u8 = 1;

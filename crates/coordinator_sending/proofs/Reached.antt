@@ -11,7 +11,6 @@ use Rattle.general.proofs.Sets.{is-set, set-same, set-empty}
 use Rattle.coordinator.specs.Message.{Reach, none, all, getsData, getsCommit}
 use Rattle.consensus.specs.Instance.{Fault, crashes, CrashPoint, beforeSending, duringData, duringCommits, pointFrom}
 use Rattle.coordinator.specs.Delivery.{amongFirst, reachAt, reachIn, reach}
-use Rattle.consensus.specs.WellFormed.{FaultAllowedBy}
 use Rattle.coordinator.specs.WellFormed.{PointAllowed}
 use Rattle.coordinator.proofs.CountsReached.{data-or-none, all-get-data, no-commit, commit-or-data, among-above}
 use Rattle.tables.specs.InstanceOfTable.{faultFrom}
@@ -130,8 +129,7 @@ module _ (n r round step set count : ℕ) (first : 1 ≤ r) (now : round ≡ r) 
 
   pub interrupted-allowed : SendingAllowed n r (faultFrom round step set count)
       → (1 ≤ r) × (r ≤ n) × (n ≤ 64) × PointAllowed n r r (pointFrom step set count)
-  unfolding FaultAllowedBy
-  interrupted-allowed allowed = (allowed .first, allowed .last, allowed .at-most-64, (rw its-fault at (allowed .allowed)) .2)
+  interrupted-allowed allowed = (allowed .first, allowed .last, allowed .at-most-64, allowed .point-allowed _ its-fault)
 
   pub interrupted-sent : (speaks : Bool) → speaks ≡ true → (s : Sent) → s ≡ sendingBy n r (crashes r (pointFrom step set count)) true
       → s ≡ sendingBy n r (faultFrom round step set count) speaks

@@ -1,2 +1,1 @@
 pub mod ResultLine
-pub mod RunOver

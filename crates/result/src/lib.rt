@@ -5,9 +5,8 @@ ghost use Prim.Native.Nat.{_*_, _≤_};
 ghost use lib.ListN.{length, drop};
 ghost use Rattle.general.specs.BigEndian.{bytesOf};
 ghost use Rattle.general.specs.Indexed.{mapFrom};
-ghost use Rattle.tables.specs.RunOfTable.{stateByEnd, statesOver};
+ghost use Rattle.tables.specs.RunOfTable.{stateByEnd, statesOver, runOver};
 ghost use Rattle.formats.specs.ResultLine.{endBytes, processLine, processLineSize, joined, resultLines, resultSize, refusalLine, refusalLineSize};
-ghost use Rattle.result.specs.RunOver.{runOver};
 
 // The kinds of the lines: a process's, the last one, and a refusal's.
 const PROCESS_LINE: u8 = 0x11;

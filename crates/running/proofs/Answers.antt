@@ -15,7 +15,7 @@ use Rattle.coordinator.proofs.Settled.{settled-at-last}
 use Rattle.tables.specs.InstanceOfTable.{instanceOf}
 use Rattle.tables.specs.declared.InstanceTable.{InstanceTable}
 use Rattle.tables.specs.declared.RunTable.{RunTable}
-use Rattle.tables.specs.RunOfTable.{runFrom}
+use Rattle.tables.specs.RunOfTable.{runOver, runFrom}
 use Rattle.formats.specs.Reading.{Reading, accepted, refused}
 use Rattle.formats.specs.Ticket.{readTicket}
 use Rattle.formats.proofs.WellFormed.{accepted-well-formed}
@@ -23,9 +23,8 @@ use Rattle.formats.specs.ResultLine.{resultText, resultLines, resultSize}
 use Rattle.formats.proofs.ResultLength.{length-text}
 use Rattle.formats.specs.Running.{resultIn, running, bufferAfter}
 use Rattle.formats.specs.Settle.{Settles}
-use Rattle.coordinator_run.proofs.Crashes.{faultsBy, statesBy, counts-by-rounds}
-use Rattle.result.specs.RunOver.{runOver}
-use Rattle.result.proofs.RunOver.{run-over}
+use Rattle.coordinator_run.specs.CrashCountOver.{crashCountOver}
+use Rattle.coordinator_run.proofs.Crashes.{counts-by-rounds}
 use Rattle.running.specs.Answer.{answerOf, Ran}
 use Rattle.running.specs.Settling.{settlingOf}
 use Rattle.running.specs.declared.RunAnswer.{RunAnswer}
@@ -74,20 +73,18 @@ module _ (text before : List ℕ) where
 
 -- What is written of the code's run and its f is the instance's result.
 pub run-written : (table : InstanceTable) (before after : List ℕ) (run : RunTable) (f : ℕ) → runFrom (table .n) run ≡ runOf (instanceOf table)
-    → f ≡ crashCount (faultsBy (table .n) (table .«crash_rounds»)) (statesBy (table .n) (run .ends) (run .«end_rounds»))
-    → after
-    ≡ resultLines (runOver (table .n) (run .ends) (run .«end_rounds») (run .values) (run .rounds) (run .speakers) (run .«data_sent») (run .«commits_sent»)) f
-    ++ drop (resultSize (table .n)) before
+    → f ≡ crashCountOver (table .n) (table .«crash_rounds») (run .ends) (run .«end_rounds»)
+    → after ≡ resultLines (runFrom (table .n) run) f ++ drop (resultSize (table .n)) before
     → after ≡ resultText (instanceOf table) ++ drop (resultSize (table .n)) before
-unfolding resultText crashesOf runFrom
+unfolding resultText crashesOf runOver
 run-written table before after run f same counted stored =
     let crashes = counted ∙ counts-by-rounds table run ∙ ap (λ (r : Run). crashCount (instanceOf table .pattern) (r .states)) same in
-    stored ∙ ap (λ (l : List ℕ). l ++ drop (resultSize (table .n)) before) (ap₂ resultLines (run-over (table .n) run ∙ same) crashes)
+    stored ∙ ap (λ (l : List ℕ). l ++ drop (resultSize (table .n)) before) (ap₂ resultLines same crashes)
 
 -- The run's last round qualifies.
 pub settles-last : (text : List ℕ) (table : InstanceTable) (run : RunTable) → readTicket text ≡ accepted (instanceOf table)
     → runFrom (table .n) run ≡ runOf (instanceOf table) → Settles (readTicket text) (settlingOf (SettleAnswer.Round (run .rounds)))
-unfolding Settles settlingOf runFrom
+unfolding Settles settlingOf runOver
 settles-last text table run read same =
     rw read
     (ap (qualifies (instanceOf table)) (ap (λ (r : Run). r .rounds) same)

@@ -26,13 +26,17 @@ statesOver n ends endRounds values = mapFrom (stateOver endRounds values) 1 (tak
 abbrev pub statesIn : ℕ → RunTable → List State
 statesIn n run = statesOver n (run .ends) (run .«end_rounds») (run .values)
 
--- The run of n processes.
-unfoldable pub runFrom : ℕ → RunTable → Run
-runFrom n run =
+-- The run of n processes, by its arrays and its counts.
+unfoldable pub runOver : ℕ → (ends endRounds values : List ℕ) → (rounds speakers dataSent commitsSent : ℕ) → Run
+runOver n ends endRounds values rounds speakers dataSent commitsSent =
     record {
-      states = statesIn n run;
-      rounds = run .rounds;
-      speakers = run .speakers;
-      dataSent = run .«data_sent»;
-      commitsSent = run .«commits_sent»;
+      states = statesOver n ends endRounds values;
+      rounds = rounds;
+      speakers = speakers;
+      dataSent = dataSent;
+      commitsSent = commitsSent;
     }
+
+-- The same in a table.
+abbrev pub runFrom : ℕ → RunTable → Run
+runFrom n run = runOver n (run .ends) (run .«end_rounds») (run .values) (run .rounds) (run .speakers) (run .«data_sent») (run .«commits_sent»)

@@ -20,7 +20,7 @@ pub const DECIDED: u8 = 1;
 pub const CRASHED: u8 = 2;
 
 // Document 01: the table of 64 stations, with each one's value, round and end (00 undecided, 01 decided, 02 crashed); and what the run has counted.
-// `undecided` is the set of the processes up and undecided: bit p - 1 just if end p is 00.
+// `undecided` is the set of those of the n processes that are up and undecided: bit p - 1 just if end p is 00 (a place above n has end 00 and no bit).
 pub struct RunTable {
     pub ends: [u8; 64],
     pub end_rounds: [u8; 64],

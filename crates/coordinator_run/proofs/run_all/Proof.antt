@@ -12,7 +12,7 @@ run-to-requires : tie.Need-run-to-requires
 run-to-requires c κs = (c .pre, omega arith)
 
 returns : tie.Need-returns
-returns c = to-the-last _ _ (c .run-to .ensures)
+returns c = (to-the-last _ _ (c .run-to .ensures .0), c .run-to .ensures .1)
 
 pub run-all-spec : {M : Type 1} → statement M
 run-all-spec = tie.close (tie.spec add-run-to run-to-requires returns)

@@ -11,11 +11,11 @@ use Rattle.coordinator_run.proofs.run_to.Statement.{statement}
 use Rattle.coordinator_run.proofs.run_to.Tie as tie
 
 abbrev Inv-loop : tie.InvT-loop
-Inv-loop n t last crash-rounds steps reached counts dying run₀ r₀ run r =
-    AtRound (tableOf n t (run₀ .values) crash-rounds steps reached counts) last dying run r
+Inv-loop n t last crash-rounds steps reached counts faulty run₀ r₀ run r =
+    AtRound (tableOf n t (run₀ .values) crash-rounds steps reached counts) last faulty run r
 
 abbrev μ-loop : tie.MeasureT-loop
-μ-loop n t last crash-rounds steps reached counts dying run₀ r₀ run r = last + 1 - r
+μ-loop n t last crash-rounds steps reached counts faulty run₀ r₀ run r = last + 1 - r
 
 crash-sets-requires : tie.Need-crash-sets-requires Inv-loop μ-loop
 crash-sets-requires c κs = limits _ (c .pre .0) .1
@@ -31,7 +31,7 @@ loop-holds c =
     (λ i h. getD-replicate 64 i 0 0 h) refl refl refl refl refl (c .first-processes .ensures)
 
 returns : tie.Need-returns Inv-loop μ-loop
-returns c = ended-early _ _ _ _ _ (c .before .before .before .loop .inv) (omega (arith, c .if1 .taken))
+returns c = let now = c .before .before .before .loop .inv in (ended-early _ _ _ _ _ now (omega (arith, c .if1 .taken)), now .kept)
 
 sub-i : tie.Need-sub-i Inv-loop μ-loop
 sub-i c = search needs
@@ -78,7 +78,7 @@ loop-again c =
     at-next-round _ _ _ _ _ (test .before .before .before .loop .inv) _ (omega arith) (c .run-round .ensures)
 
 returns-2 : tie.Need-returns-2 Inv-loop μ-loop
-returns-2 c = ended-late _ _ _ _ _ (c .before .loop .inv) (omega arith)
+returns-2 c = let now = c .before .loop .inv in (ended-late _ _ _ _ _ now (omega arith), now .kept)
 
 pub run-to-spec : {M : Type 1} → statement M
 run-to-spec =

@@ -3,7 +3,7 @@ use Rattle.result.proofs.ResultLine.{result-written}
 use Rattle.tables.proofs.Places.{length-states-over}
 use Rattle.result.proofs.write_result.Statement.{statement}
 use Rattle.result.proofs.write_result.Tie as tie
-use Rattle.result.specs.RunOver.{runOver}
+use Rattle.tables.specs.RunOfTable.{runOver}
 use Rattle.formats.specs.ResultLine.{resultSize}
 use borrow.Author.Needs.{needs}
 use lib.ListN.{length, length-take, length-drop}

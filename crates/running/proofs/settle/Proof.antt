@@ -39,7 +39,7 @@ run-all-requires : tie.Need-run-all-requires
 run-all-requires c κs = accepted-well-formed _ _ (ticket-read (before-lending c))
 
 returns-2 : tie.Need-returns-2
-returns-2 c = settles-last _ _ _ (ticket-read (before-lending (c .before))) (c .run-all .ensures)
+returns-2 c = settles-last _ _ (c .run-all .result) (ticket-read (before-lending (c .before))) (c .run-all .ensures .0)
 
 pub settle-spec : {M : Type 1} → statement M
 settle-spec =

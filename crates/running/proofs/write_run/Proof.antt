@@ -44,7 +44,8 @@ returns c =
     let wrote = c .before .before in
     let lent = wrote .before .before .before .before in
     let counted = lent .before .before in
-    run-written _ _ _ _ _ (ran lent .run-all .ensures) (counted .crash-count .ensures) (wrote .write-result .ensures)
+    let run = ran lent .run-all in
+    run-written _ _ _ (run .result) _ (run .ensures .0) (counted .crash-count .ensures) (wrote .write-result .ensures)
 
 pub write-run-spec : {M : Type 1} → statement M
 write-run-spec =
