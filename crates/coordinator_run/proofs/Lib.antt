@@ -1,4 +1,4 @@
-pub mod Reading
+pub mod TableLimits
 pub mod CrashSets
 pub mod Crashes
 pub mod Whole

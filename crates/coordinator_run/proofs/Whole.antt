@@ -27,7 +27,7 @@ use Rattle.tables.proofs.Places.{processes-of, resilience-of, fault-at, state-o
 use Rattle.coordinator_sending.proofs.Cases.{crashes-by-round}
 use Rattle.coordinator_run.specs.CrashSets.{CrashSets}
 use Rattle.coordinator_round.specs.Round.{undecidedSet, RoundAllowed, RoundOf, RoundRun}
-use Rattle.coordinator_run.proofs.Reading.{limits, rounds-fit}
+use Rattle.coordinator_run.proofs.TableLimits.{limits, rounds-fit}
 
 -- The run as round r begins, one of rounds 1 to `last` or the one after them; and the sets of those that crash in each round.
 pub record AtRound (x : InstanceTable) (last : ℕ) (faulty : List ℕ) (run : RunTable) (r : ℕ) : Type 0 where

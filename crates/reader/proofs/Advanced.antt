@@ -19,8 +19,12 @@ module _ (text : List ℕ) (at : ℕ) (ahead : Advance) (advanced : ahead ≡ ad
   unfolding advanceAt
   advance-behind = ap (λ (a : Advance). a .at) advanced ∙ ap (λ (a : LineRead). placeBehind a at) (sym advance-read)
 
-  pub advance-line : (size head tail : ℕ) (next : Cursor) → ahead .line ≡ Line size head tail next → LineAt text at size head tail (record { at = ahead .at })
+  -- The reader stands where the next line begins.
+  pub advance-stands : (size head tail : ℕ) (next : Cursor) → ahead .line ≡ Line size head tail next → ahead .at ≡ next .at
   unfolding placeBehind
+  advance-stands size head tail next e = advance-behind ∙ ap (λ (a : LineRead). placeBehind a at) e
+
+  pub advance-line : (size head tail : ℕ) (next : Cursor) → ahead .line ≡ Line size head tail next → LineAt text at size head tail (record { at = ahead .at })
   advance-line size head tail next e =
-      let there : next .at ≡ ahead .at = sym (advance-behind ∙ ap (λ (a : LineRead). placeBehind a at) e) in
+      let there : next .at ≡ ahead .at = sym (advance-stands size head tail next e) in
       subst (λ (n : ℕ). LineAt text at size head tail (record { at = n })) there (read-line text at size head tail next (sym advance-read ∙ e))

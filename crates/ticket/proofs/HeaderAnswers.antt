@@ -11,10 +11,9 @@ use Rattle.formats.specs.declared.HeaderAnswer.{HeaderAnswer}
 use Rattle.lines.specs.Words.{lineBytes}
 use Rattle.lines.specs.declared.Cursor.{Cursor}
 use Rattle.lines.specs.declared.LineRead.the-variants.{Line, NoLine}
-use Rattle.lines.proofs.Read.{read-line}
 use Rattle.reader.specs.Advance.{advanceAt}
 use Rattle.reader.specs.declared.Advance.{Advance}
-use Rattle.reader.proofs.Advanced.{advance-read, advance-line}
+use Rattle.reader.proofs.Advanced.{advance-read, advance-stands}
 use Rattle.ticket.specs.Header.{withPlace, firstRead, headerOf}
 use Rattle.ticket.specs.declared.HeaderRead.the-variants.{Refused}
 
@@ -38,15 +37,8 @@ module _ (text : List ℕ) (short : length text ≤ ticketLimit) where
     unfolding firstRead
     answers-no-line e = sym (ap firstRead e) ∙ by-first
 
-    -- The reader stands where the next line begins.
-    stands : (size head tail : ℕ) (next : Cursor) → ahead .line ≡ Line size head tail next → ahead .at ≡ next .at
-    stands size head tail next e =
-        let moved = advance-line text 0 ahead advanced size head tail next e in
-        let read = read-line text 0 size head tail next (sym (advance-read text 0 ahead advanced) ∙ e) in
-        omega (arith, moved .after, read .after)
-
     -- A line of bytes, and the answer to it as `header_line` gives it.
     pub answers-line : {size head tail : ℕ} {next : Cursor} → ahead .line ≡ Line size head tail next
         → {answer said : HeaderAnswer} → answer ≡ headerSays (lineBytes size head tail) → answer ≡ said → withPlace said (ahead .at) ≡ headerOf text
     unfolding firstRead
-    answers-line {size} {head} {tail} {next} e given told = rw (stands size head tail next e, sym told ∙ given) (sym (ap firstRead e) ∙ by-first)
+    answers-line {size} {head} {tail} {next} e given told = rw (advance-stands text 0 ahead advanced size head tail next e, sym told ∙ given) (sym (ap firstRead e) ∙ by-first)

@@ -1,6 +1,6 @@
 -- `coordinator_run::run_all` meets its contract: it is the run to round t + 1. Assumes nothing.
 use native.Mathlib.Omega.{arith}
-use Rattle.coordinator_run.proofs.Reading.{limits}
+use Rattle.coordinator_run.proofs.TableLimits.{limits}
 use Rattle.coordinator_run.proofs.Whole.{to-the-last}
 use Rattle.coordinator_run.proofs.run_all.Statement.{statement}
 use Rattle.coordinator_run.proofs.run_all.Tie as tie

@@ -5,7 +5,7 @@ use native.Mathlib.Omega.{arith}
 use lib.ListN.{getD-replicate}
 use borrow.Author.Needs.{needs}
 use Rattle.tables.specs.InstanceOfTable.{tableOf}
-use Rattle.coordinator_run.proofs.Reading.{limits}
+use Rattle.coordinator_run.proofs.TableLimits.{limits}
 use Rattle.coordinator_run.proofs.Whole.{AtRound, at-first-round, round-allowed, at-next-round, ended-early, ended-late}
 use Rattle.coordinator_run.proofs.run_to.Statement.{statement}
 use Rattle.coordinator_run.proofs.run_to.Tie as tie

@@ -4,7 +4,7 @@ use native.Mathlib.Omega.{arith}
 use borrow.Author.Needs.{needs}
 use lib.ListN.{length}
 use Rattle.tables.specs.InstanceOfTable.{instanceOf}
-use Rattle.coordinator_run.proofs.Reading.{rounds-fit}
+use Rattle.coordinator_run.proofs.TableLimits.{rounds-fit}
 use Rattle.formats.specs.ResultLine.{resultSize}
 use Rattle.running.proofs.Answers.{run-written}
 use Rattle.running.proofs.write_run.Statement.{statement}
