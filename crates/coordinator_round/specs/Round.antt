@@ -16,15 +16,15 @@ use Rattle.coordinator_sending.specs.Sending.{SendingAllowed}
 abbrev pub undecidedSet : ℕ → RunTable → ℕ
 undecidedSet n run = setOf n (λ p. isUndecided (stateOf (statesIn n run) p))
 
--- Of a well-formed instance these are n, the fault of round r's coordinator and the set of the processes that crash in round r.
+-- Of a well-formed instance these are n, the fault of round r's coordinator and the set of the processes whose crash round is r.
 pub record RoundOf (x : Instance) (n r : ℕ) (fault : Fault) (faulty : ℕ) : Type 0 where
   pub well-formed : WellFormed x
   pub processes : x .processes ≡ n
   pub coordinator : faultOf x r ≡ fault
   pub crashing : faulty ≡ setOf n (λ p. crashesIn r (faultOf x p))
 
--- Round r of n processes, whose coordinator has this fault and in which these crash, may be run on this table: there is an instance of which they are, the
--- round begins with a process up and undecided, the table's set of these is that of its arrays, and its counts have room for one round more.
+-- Round r of n processes, whose coordinator has this fault and which is the crash round of these, may be run on this table: there is an instance of which
+-- they are, the round begins with a process up and undecided, the table's set of those is that of its arrays, and its counts have room for one round more.
 pub record RoundAllowed (n r : ℕ) (fault : Fault) (faulty : ℕ) (run : RunTable) : Type 0 where
   pub sender : SendingAllowed n r fault
   pub instance : Instance

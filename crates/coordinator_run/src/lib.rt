@@ -33,7 +33,7 @@ fn crash_sets(n: u8, crash_rounds: &[u8; 64]) -> [u64; 64]
     by_round
 }
 
-// The run after rounds 1 to `last`, or after the earlier round by which no process is both up and undecided, and the set of those that are.
+// The run after rounds 1 to `last`, or after the earlier round by which no process is both up and undecided; its `undecided` is the set by its arrays.
 // Before round 1 every process holds its proposal.
 pub fn run_to<'a>(
     n: u8,
@@ -82,7 +82,7 @@ pub fn run_to<'a>(
     run
 }
 
-// The whole run: rounds 1 to t + 1, and the set of the processes then up and undecided, as `run_to` has it.
+// The whole run: rounds 1 to t + 1.
 pub fn run_all<'a>(
     n: u8,
     t: u8,
