@@ -1,5 +1,5 @@
 pub mod Limits
 pub mod FaultsStated
 pub mod CrashCount
-pub mod ClaimCases
 pub mod SameEnds
+pub mod ClaimCases
