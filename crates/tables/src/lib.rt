@@ -12,7 +12,7 @@ pub struct InstanceTable {
     pub counts: [u8; 64],
 }
 
-// The ends of a process (document 01, 'The result').
+// The ends of a process. Document 01, 'The result', has 01 and 02, with which a run is over; 00 is that of a process up and undecided, during it.
 pub const UNDECIDED: u8 = 0;
 
 pub const DECIDED: u8 = 1;
