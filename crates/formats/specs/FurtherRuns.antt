@@ -1,6 +1,6 @@
 -- Runs that no marked case has (document 01, 'Worked runs', has cases 1 to 12), with what the program writes for them by the second implementation: of a
--- coordinator that crashes while sending commits, those that send none and two; a set of several processes; a run that ends in a silent round; and an idle line of a process's
--- later round.
+-- coordinator that crashes while sending commits, those that send none and two; a set of several processes; a run that ends in a silent round; and an idle
+-- line of a round above its process.
 use mathlib.Core.List.{List, [], _∷_}
 use Rattle.formats.specs.Table.{Case, caseOf, withFailure, case8}
 
