@@ -14,9 +14,9 @@
  *   A pointer must not be NULL, even where its length is 0: to hand over nothing, point at any byte.
  *
  * TOTAL
- *   For pointers as above every call is defined on every input: any bytes, any length, any number. Each call has one
- *   answer, and a call that is refused changes no byte. That is proved, for each call, of the code that this library is
- *   compiled from.
+ *   For pointers as above every call is defined on every input: any bytes, any length, any number. What it answers is
+ *   what its prototype says: one number, but of uc_settle any of the rounds that qualify. A call that is refused changes
+ *   no byte. That is proved, for each call, of the code that this library is compiled from.
  *
  * A TICKET is text of at most 4,096 bytes. A line is an even, non-zero count of digits 0-9, A-F (capitals), closed by
  * byte 0A; two digits make a byte, numbers have their most significant byte first, and the first byte is the kind:

@@ -17,11 +17,12 @@ use Rattle.coordinator.specs.Run.{initial, withRound, runTo, runOf, cras
 use Rattle.coordinator.specs.IdleLines.{faultLeft, withoutIdle}
 use Rattle.coordinator.specs.Settling.{valuesHeld, allAre, oneValue, qualifies}
 use Rattle.consensus.specs.FourProcesses.{four, firstCrashes, afterOneCommit, dataToTheLast, idleBesides, idleAlone}
+use Rattle.consensus.specs.ClaimCases.{case1Ends, case8Ends}
 use Rattle.coordinator.specs.WorkedTable.{workedRuns}
 use Rattle.coordinator.specs.WorkedRuns.{qualifyingTo, qualifyingRounds, worked, AsWorked, WorkedRuns}
 
 pub worked-runs : WorkedRuns
-unfolding four firstCrashes afterOneCommit dataToTheLast idleBesides idleAlone countFrom workedRuns AsWorked worked qualifyingTo qualifyingRounds onesIn member ones64 mapFrom arriving faultOf sends receives amongFirst reachAt reachIn reach stateOf crashesIn sentBy received afterOutcome after statesAfter isUndecided anyUndecided dataAt commitsAt countIn speaks dataIn commitsIn isIdle countsAsCrash crashCount initial withRound runTo runOf crashesOf valuesHeld allAre oneValue qualifies latestOf endOf faultLeft withoutIdle
+unfolding four firstCrashes afterOneCommit dataToTheLast idleBesides idleAlone case1Ends case8Ends countFrom workedRuns AsWorked worked qualifyingTo qualifyingRounds onesIn member ones64 mapFrom arriving faultOf sends receives amongFirst reachAt reachIn reach stateOf crashesIn sentBy received afterOutcome after statesAfter isUndecided anyUndecided dataAt commitsAt countIn speaks dataIn commitsIn isIdle countsAsCrash crashCount initial withRound runTo runOf crashesOf valuesHeld allAre oneValue qualifies latestOf endOf faultLeft withoutIdle
 worked-runs =
     record {
       number = refl;

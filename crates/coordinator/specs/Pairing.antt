@@ -1,5 +1,5 @@
--- Pairing by instance, a step on the way to demand 3's second half, which pairs texts (`PairedTexts`, demands/specs; document 01, 'A round', last
--- paragraph).
+-- Pairing by instance, of demand 3's second half (document 01, 'A round', last paragraph): `InstancesClaim` of demands/specs is stated in it, and texts
+-- that are paired line by line (`PairedTexts`) describe instances that are paired so.
 use mathlib.Core.Path.{_≡_}
 use Prim.Native.Nat.{ℕ, _≤_}
 use Rattle.consensus.specs.Instance.{Instance, Fault, correct, crashes, duringCommits, faultOf}
@@ -12,7 +12,7 @@ pub data LinePaired : Fault → Fault → Type 0 where
   moreCommits : {round sent sent′ : ℕ} → sent ≤ sent′ → LinePaired (crashes round (duringCommits sent)) (crashes round (duringCommits sent′))
   missing : {round sent : ℕ} → LinePaired (crashes round (duringCommits sent)) correct
 
--- Two instances that are equal but for that: a step on that way too.
+-- Two instances that are equal but for that.
 pub record Paired (x y : Instance) : Type 0 where
   pub processes : x .processes ≡ y .processes
   pub resilience : x .resilience ≡ y .resilience

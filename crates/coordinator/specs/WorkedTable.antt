@@ -5,6 +5,7 @@ use Prim.Native.Nat.{ℕ}
 use Rattle.consensus.specs.Instance.{Instance, correct, crashes, beforeSending, duringData, duringCommits}
 use Rattle.consensus.specs.State.{State, decided, crashed}
 use Rattle.consensus.specs.FourProcesses.{four, firstCrashes, afterOneCommit, dataToTheLast, idleBesides, idleAlone}
+use Rattle.consensus.specs.ClaimCases.{case1Ends, case8Ends}
 
 -- An instance and what is looked at of its run.
 pub record WorkedRun : Type 0 where
@@ -25,7 +26,7 @@ row x ends counts limits settling = record { run = x; ends = ends; counts = coun
 -- Case 1: process 1 crashes after one commit.
 abbrev pub case1 : WorkedRun
 case1 =
-    row afterOneCommit (crashed 1 ∷ decided 2 10 ∷ decided 2 10 ∷ decided 1 10 ∷ [])
+    row afterOneCommit case1Ends
     (2 ∷ 1 ∷ 2 ∷ 5 ∷ 3 ∷ []) (2 ∷ 9 ∷ []) (1 ∷ 2 ∷ [])
 
 -- Case 2: one process.
@@ -61,13 +62,13 @@ case6 =
 -- Case 7: case 1 with a line of process 4, which is idle.
 abbrev pub case7 : WorkedRun
 case7 =
-    row idleBesides (crashed 1 ∷ decided 2 10 ∷ decided 2 10 ∷ decided 1 10 ∷ [])
+    row idleBesides case1Ends
     (2 ∷ 1 ∷ 2 ∷ 5 ∷ 3 ∷ []) (2 ∷ 9 ∷ []) (1 ∷ 2 ∷ [])
 
 -- Case 8: only a line of process 3, which is idle.
 abbrev pub case8 : WorkedRun
 case8 =
-    row idleAlone (decided 1 10 ∷ decided 1 10 ∷ decided 1 10 ∷ decided 1 10 ∷ [])
+    row idleAlone case8Ends
     (1 ∷ 0 ∷ 1 ∷ 3 ∷ 3 ∷ []) (1 ∷ 6 ∷ []) (1 ∷ [])
 
 -- The instance of case 9, and how its processes end.

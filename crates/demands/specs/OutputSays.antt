@@ -1,5 +1,5 @@
--- What the bytes of an output say (document 01, 'The result'): how each process ended, and the run's counts. The rounds are not looked at.
--- A line that is not as document 01 lays it out says nothing.
+-- What the bytes of an output say (document 01, 'The result'): how each process ended, and the run's counts, read off the bytes
+-- alone. A line that is not as document 01 lays it out says nothing. What the rounds count, to which the bytes are held, is `countsOf`, the last.
 use mathlib.Core.List.{List}
 use mathlib.Core.Path.{_≡_}
 use mathlib.Core.Option.{Option, some, none}

@@ -131,6 +131,7 @@ module _ (text : List ℕ) where
 pub codes-apart : CodesApart
 codes-apart =
     record {
+      placed = refusal-told;
       run = run-told;
       runAccepted = λ text room code e small. size-read text room (running text room) code (rw e (run-told text room)) small;
       runRefused = λ text room code e large. refusal-read text room (running text room) code (rw e (run-told text room)) large;

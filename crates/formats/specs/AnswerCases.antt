@@ -7,7 +7,7 @@ use Prim.Native.String.{String}
 use lib.ListN.{length, replicate}
 use Rattle.general.specs.Text.{ascii}
 use Rattle.formats.specs.Running.{running, programWrites}
-use Rattle.formats.specs.Code.{runCode}
+use Rattle.formats.specs.Code.{placedCode, runCode}
 use Rattle.formats.specs.Table.{textOf, case1, case10Passes, case12}
 use Rattle.formats.specs.ReadingCases.{afterOpening}
 
@@ -33,8 +33,10 @@ pub record RefusalCases : Type 0 where
   pub rows : length refusalRows ≡ 9
   pub written : map (λ (row : RefusalRow). programWrites (row .text)) refusalRows ≡ map (λ (row : RefusalRow). textOf (row .line ∷ [])) refusalRows
 
--- What a C caller is answered: case 12's refusal 8 at line 6, refusal 9 of no line, the size of case 1's result.
+-- What a C caller is answered: case 12's refusal 8 at line 6, refusal 9 of no line, the size of case 1's result; and refusal 8 at line 6 of the second
+-- ticket of several.
 unfoldable pub CodeCases : Type 0
 CodeCases =
-    runCode (running (textOf (case12 .ticket)) 0) ∷ runCode (running (textOf (case1 .ticket)) 84) ∷ runCode (running (textOf (case1 .ticket)) 85) ∷ []
-    ≡ 524294 ∷ 589824 ∷ 85 ∷ []
+    runCode (running (textOf (case12 .ticket)) 0) ∷ runCode (running (textOf (case1 .ticket)) 84) ∷ runCode (running (textOf (case1 .ticket)) 85)
+    ∷ placedCode 2 8 6 ∷ []
+    ≡ 524294 ∷ 589824 ∷ 85 ∷ 8590458886 ∷ []

@@ -1,4 +1,5 @@
--- For the code alone: the numbers by which a C caller reads an answer, which document 01 leaves open (include/agreement.h; docs/DECISIONS.md, S5).
+-- The numbers by which a C caller reads an answer. Document 01 leaves them open (include/agreement.h; docs/DECISIONS.md, S5), and the claims over C calls
+-- (`Demand1` and `Written` of demands/specs) are stated in them.
 use mathlib.Core.List.{List}
 use mathlib.Core.Path.{_≡_}
 use Prim.Native.Nat.{ℕ, _+_, _*_}

@@ -1,5 +1,5 @@
--- For the code alone: what a C caller reads off the number that `uc_run` or `uc_settle` answers, so that answers can be told apart
--- (include/agreement.h; docs/DECISIONS.md, S5).
+-- What a C caller reads off the number that `uc_run` or `uc_settle` answers, so that answers can be told apart. Document 01 leaves the numbers open
+-- (include/agreement.h; docs/DECISIONS.md, S5), and the claims over C calls are stated in them (`Demand1`, demands/specs).
 use mathlib.Core.List.{List}
 use mathlib.Core.Path.{_≡_}
 use mathlib.Core.Bool.{true}
@@ -10,7 +10,7 @@ use Rattle.formats.specs.Reading.{Reading, accepted, refused}
 use Rattle.formats.specs.Ticket.{readTicket}
 use Rattle.formats.specs.ResultLine.{resultText, resultSize}
 use Rattle.formats.specs.Running.{running}
-use Rattle.formats.specs.Code.{refusalsFrom, placesFrom, runCode, SettlesAs}
+use Rattle.formats.specs.Code.{refusalsFrom, placesFrom, placedCode, runCode, SettlesAs}
 
 -- The code of a refusal: its place, its number, from 1 to `most`, and its line are read off by division.
 pub record TellsRefusal (most place number line code : ℕ) : Type 0 where
@@ -48,8 +48,11 @@ unfoldable pub TellsSettling : (text : List ℕ) → Reading ℕ → (code : ℕ
 TellsSettling text (accepted r) code = TellsRound text r code
 TellsSettling text (refused number line) code = TellsRefusal 8 0 number line code
 
--- Every answer's code tells it; a code is at least `refusalsFrom` just if the answer is the refusal that is read off it; and neither call names a place.
+-- Every refusal with a place is read off its code. Every answer's code tells it; a code is at least `refusalsFrom` just if the answer is the refusal that
+-- is read off it; and neither call names a place.
 pub record CodesApart : Type 0 where
+  pub placed : (most place number line : ℕ) → most < refusalsFrom → 1 ≤ number → number ≤ most → line < refusalsFrom
+      → TellsRefusal most place number line (placedCode place number line)
   pub run : (text : List ℕ) (room : ℕ) → TellsRun text room (running text room) (runCode (running text room))
   pub runAccepted : (text : List ℕ) (room code : ℕ) → code ≡ runCode (running text room) → code < refusalsFrom → TellsSize text room code
   pub runRefused : (text : List ℕ) (room code : ℕ) → code ≡ runCode (running text room) → refusalsFrom ≤ code

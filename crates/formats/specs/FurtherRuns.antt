@@ -1,7 +1,8 @@
 -- Runs that no marked case has (document 01, 'Worked runs', has cases 1 to 12), with what the program writes for them by the second implementation: of a
--- coordinator that crashes while sending commits, those that send none and two; a set of several processes; and a run that ends in a silent round.
+-- coordinator that crashes while sending commits, those that send none and two; a set of several processes; a run that ends in a silent round; and an idle
+-- line of a round above its process.
 use mathlib.Core.List.{List, [], _∷_}
-use Rattle.formats.specs.Table.{Case, caseOf, withFailure}
+use Rattle.formats.specs.Table.{Case, caseOf, withFailure, case8}
 
 -- Case 1 with count 0: all data leaves and no commit.
 abbrev pub noCommit : Case
@@ -19,11 +20,16 @@ setOfTwo =
     withFailure 15 "03010101000000000000000A00" ("1101020100000000" ∷ "110201020000000A" ∷ "110301020000000A" ∷ "110401020000000A" ∷ "1202010200040002" ∷ [])
 
 -- Round 2 is silent and the last: its coordinator crashed in round 1, and process 3, the only one up and undecided, crashes in it.
-abbrev pub silentEnd : Case
-silentEnd =
+abbrev pub silentAtLast : Case
+silentAtLast =
     caseOf 16 ("010403" ∷ "02010000000A" ∷ "020200000014" ∷ "02030000001E" ∷ "020400000028"
     ∷ "03010102000000000000000001" ∷ "03020100000000000000000000" ∷ "03030200000000000000000000" ∷ "04" ∷ [])
     ("1101020100000000" ∷ "1102020100000000" ∷ "1103020200000000" ∷ "110401010000000A" ∷ "1202030100030001" ∷ [])
 
+-- A line of process 1 whose round is above its number: it has decided by then, as in case 8, and the line is idle.
+abbrev pub afterItsRound : Case
+afterItsRound =
+    withFailure 17 "03010200000000000000000000" (case8 .output)
+
 unfoldable pub furtherRuns : List Case
-furtherRuns = noCommit ∷ twoCommits ∷ setOfTwo ∷ silentEnd ∷ []
+furtherRuns = noCommit ∷ twoCommits ∷ setOfTwo ∷ silentAtLast ∷ afterItsRound ∷ []

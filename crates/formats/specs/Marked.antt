@@ -18,5 +18,5 @@ expected c = textOf (c .output)
 -- to 12 are the marked ones"); and so are the further runs.
 pub record MarkedCases : Type 0 where
   pub numbers : map (λ (c : Case). c .number) (cases ++ furtherRuns)
-      ≡ 1 ∷ 2 ∷ 3 ∷ 4 ∷ 5 ∷ 6 ∷ 7 ∷ 8 ∷ 9 ∷ 10 ∷ 10 ∷ 11 ∷ 12 ∷ 13 ∷ 14 ∷ 15 ∷ 16 ∷ []
+      ≡ 1 ∷ 2 ∷ 3 ∷ 4 ∷ 5 ∷ 6 ∷ 7 ∷ 8 ∷ 9 ∷ 10 ∷ 10 ∷ 11 ∷ 12 ∷ 13 ∷ 14 ∷ 15 ∷ 16 ∷ 17 ∷ []
   pub written : map writes (cases ++ furtherRuns) ≡ map expected (cases ++ furtherRuns)

@@ -75,6 +75,11 @@ wrongKinds =
     ∷ (textOf ("0104020000000000000000000000000000" ∷ []), refusedWith 3 1)
     ∷ (textOf ("010402" ∷ "03010100000000000000000000" ∷ []), refusedWith 3 2)
     ∷ (textOf ("010402" ∷ "010402" ∷ []), refusedWith 3 2)
+    ∷ (textOf ("050402" ∷ []), refusedWith 3 1)
+    ∷ (textOf ("010402" ∷ "01010000000A" ∷ []), refusedWith 3 2)
+    ∷ (textOf ("010402" ∷ "08010000000A" ∷ []), refusedWith 3 2)
+    ∷ (afterOpening ("03" ∷ []), refusedWith 3 6)
+    ∷ (afterOpening ("05010100000000000000000000" ∷ []), refusedWith 3 6)
     ∷ []
 
 -- Refusal 4: n from 1 to 64, t below n. (n = 64 passes in case 10.)
@@ -110,7 +115,7 @@ tooMany =
     ∷ (afterOpening ("03010100000000000000000000" ∷ "03020100000000000000000000" ∷ "03030302000000000000000009" ∷ []), refusedWith 6 8)
     ∷ []
 
--- Refusal 7: station from 1 to n and rising, round from 1 to t + 1, step at most 02.
+-- Refusal 7: station from 1 to n and rising, round from 1 to t + 1, also above the station, step at most 02.
 unfoldable pub places : List Row
 places =
     (afterOpening ("03000100000000000000000000" ∷ []), refusedWith 7 6)
@@ -124,6 +129,7 @@ places =
     ∷ (afterOpening ("03010103000000000000000000" ∷ []), refusedWith 7 6)
     ∷ (afterOpening ("03030402000000000000000000" ∷ []), refusedWith 7 6)
     ∷ (afterOpening ("03020103000000000000000000" ∷ []), refusedWith 7 6)
+    ∷ (afterOpening ("03010200000000000000000000" ∷ "04" ∷ []), passes)
     ∷ []
 
 -- Refusal 8: steps 01 and 02 in the station's own round; at step 00 neither set nor count, at step 01 a set of stations above the sender and at most n
@@ -159,9 +165,9 @@ firstRules =
 unfoldable pub readingRows : List Row
 readingRows = tooLong ++ notLines ++ wrongKinds ++ limits ++ stations ++ tooMany ++ places ++ steps ++ firstRules
 
--- The claim: reading answers as each row says, and there are 83 of them.
+-- The claim: reading answers as each row says, and there are 89 of them.
 pub record ReadingCases : Type 0 where
-  pub rows : length readingRows ≡ 83
+  pub rows : length readingRows ≡ 89
   pub answered : map (λ (row : Row). verdictOf (readTicket (row .0))) readingRows ≡ map (λ (row : Row). row .1) readingRows
 
 -- A text, the room for its result, and what running answers. Refusal 9, of no line, is looked at after all lines: 17(n + 1) bytes are enough and one less

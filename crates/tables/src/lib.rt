@@ -12,14 +12,14 @@ pub struct InstanceTable {
     pub counts: [u8; 64],
 }
 
-// The ends of a process (document 01, 'The result').
+// The ends of a process: 01 and 02 as document 01 writes them ('The result'), and 00 for a process that is up and undecided.
 pub const UNDECIDED: u8 = 0;
 
 pub const DECIDED: u8 = 1;
 
 pub const CRASHED: u8 = 2;
 
-// Document 01: the table of 64 stations, with each one's value, round and end (00 undecided, 01 decided, 02 crashed); and what the run has counted.
+// Document 01, 'The ticket': "the table of 64 stations, with each one's value, round and end"; and what the run has counted.
 // `undecided` is the set of those of the n processes that are up and undecided: bit p - 1 just if end p is 00 (a place above n has end 00 and no bit).
 pub struct RunTable {
     pub ends: [u8; 64],

@@ -108,7 +108,14 @@ impl Claim {
     /// [`is_case_1_without_idle`], [`super::impostors`] and [`answer`].
     pub fn holds(self, ticket: &Ticket, run: &Run, rules: &Rules) -> bool {
         match self {
-            Claim::Agreement => decisions(run).all(|(_, v)| decisions(run).all(|(_, w)| v == w)),
+            Claim::Agreement => {
+                let agreeing = |(fault, end): (Option<Failure>, State)| match end {
+                    State::Decided(_, value) => (rules.agrees)(fault.is_some()).then_some(value),
+                    State::Undecided(_) | State::Crashed(_) => None,
+                };
+                let values: Vec<u32> = processes(run).filter_map(agreeing).collect();
+                values.iter().all(|value| *value == values[0])
+            }
             Claim::Validity => decisions(run).all(|(_, value)| ticket.proposals.contains(&value)),
             Claim::Termination => processes(run).all(|(fault, end)| {
                 crashes_undecided(fault, end, rules) || matches!(end, State::Decided(..))
@@ -200,7 +207,7 @@ fn ends_in_order(run: &Run, rules: &Rules) -> Vec<State> {
 pub fn no_later(first: &Run, second: &Run, rules: &Rules) -> bool {
     first.ends().iter().zip(second.ends()).all(|ends| match ends {
         (State::Decided(round, value), State::Decided(other, same)) => {
-            value == same && (rules.no_later)(*round, *other)
+            (rules.alike)(*value, *same) && (rules.no_later)(*round, *other)
         }
         (State::Decided(..), _) => false,
         _ => true,

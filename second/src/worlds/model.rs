@@ -107,6 +107,9 @@ impl Run {
     pub fn new(ticket: &Ticket, rules: &Rules) -> Run {
         let initial = ticket.proposals.iter().map(|&proposal| (rules.initial)(proposal));
         let mut run = Run::of_states(ticket, initial.collect());
+        for failure in run.faults.iter_mut().flatten() {
+            failure.crash = (rules.crash_of)(failure.crash);
+        }
         for round in 1..=(rules.last_round)(ticket.t) {
             let states = run.states_after((rules.round_run)(round), run.ends(), rules);
             run.history.push(states);

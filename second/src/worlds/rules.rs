@@ -11,6 +11,8 @@ pub struct Rules {
     pub most_failures: fn(u8) -> u8,
     /// Whether a process may crash while sending commits in a round.
     pub commit_step_in: fn(process: u8, round: u8) -> bool,
+    /// How a process crashes, from what its failure line says.
+    pub crash_of: fn(Crash) -> Crash,
 
     /// The state before round 1, from the proposal.
     pub initial: fn(u32) -> State,
@@ -60,6 +62,9 @@ pub struct Rules {
     /// Whether the values held are one.
     pub one_value: fn(&[u32]) -> bool,
 
+    /// Claim: whether a process that decides is held to agreement, from whether
+    /// it has a failure line.
+    pub agrees: fn(has_line: bool) -> bool,
     /// Claim: whether a round is one of a run that has so many rounds.
     pub is_of_run: fn(round: u8, rounds: u8) -> bool,
     /// Claim: the last round in which a process may decide, from f.
@@ -86,12 +91,16 @@ pub struct Rules {
     /// Pair: whether a process that decides in this round of the first may
     /// decide in that round of the second.
     pub no_later: fn(first: u8, second: u8) -> bool,
+    /// Pair: whether one that decides this value in the first may decide that
+    /// one in the second.
+    pub alike: fn(first: u32, second: u32) -> bool,
 }
 
 /// The right rules (01, "The ticket" and "A round"; demand 3).
 pub const RIGHT: Rules = Rules {
     most_failures: |t| t,
     commit_step_in: |process, round| process == round,
+    crash_of: |crash| crash,
     initial: State::Undecided,
     last_round: |t| t + 1,
     round_run: |round| round,
@@ -113,6 +122,7 @@ pub const RIGHT: Rules = Rules {
     settled_at_end_of: |round| round,
     value_held: |state, _| right::value_held(state),
     one_value: |values| values.iter().all(|value| *value == values[0]),
+    agrees: |_| true,
     is_of_run: |round, rounds| round <= rounds,
     latest: |f| f + 1,
     decides_by: |round, latest| round <= latest,
@@ -125,6 +135,7 @@ pub const RIGHT: Rules = Rules {
     line_in_one: |first, second| right::is_commit_line(first) && second.is_none(),
     proposals_differ: false,
     no_later: |first, second| second <= first,
+    alike: |first, second| first == second,
 };
 
 /// The right rules that take more than a line.

@@ -27,6 +27,18 @@ const PATTERNS: &[World] = &[
         &[NoLater],
         Rules { commit_step_in: |_, _| true, ..RIGHT },
     ),
+    world(
+        "consensus/steps-01-and-02-swapped",
+        &[NoLater],
+        Rules {
+            crash_of: |crash| match crash {
+                Crash::BeforeSending => crash,
+                Crash::SendingData { .. } => Crash::SendingCommits { sent: 0 },
+                Crash::SendingCommits { .. } => Crash::SendingData { reached: 0 },
+            },
+            ..RIGHT
+        },
+    ),
 ];
 
 /// Other rounds.
@@ -474,6 +486,11 @@ const CLAIMED: &[World] = &[
         Rules { latest: |f| f + 2, ..RIGHT },
     ),
     world(
+        "consensus/agreement-among-correct-processes-alone",
+        &[RefusesImpostors],
+        Rules { agrees: |has_line| !has_line, ..RIGHT },
+    ),
+    world(
         "consensus/decides-after-the-latest",
         &[RefusesImpostors],
         Rules { decides_by: |round, latest| round <= latest + 1, ..RIGHT },
@@ -557,6 +574,11 @@ const PAIRED: &[World] = &[
         "consensus/strictly-earlier-in-the-second",
         &[NoLater],
         Rules { no_later: |first, second| second < first, ..RIGHT },
+    ),
+    world(
+        "consensus/another-value-in-the-second",
+        &[RefusesImpostors],
+        Rules { alike: |_, _| true, ..RIGHT },
     ),
     world(
         "the first no later than the second",
