@@ -29,7 +29,7 @@ const PATTERNS: &[World] = &[
     ),
     world(
         "consensus/steps-01-and-02-swapped",
-        &[NoLater],
+        &[NoLater, IdleLinesTakenOut],
         Rules {
             crash_of: |crash| match crash {
                 Crash::BeforeSending => crash,
