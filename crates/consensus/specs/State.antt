@@ -1,4 +1,4 @@
--- How a process stands between two rounds, whatever the protocol (document 01, 'A round').
+-- How a process ends, whatever the protocol; the coordinator's processes stand so between two rounds too (document 01, 'A round').
 use mathlib.Core.List.{List}
 use Prim.Native.Nat.{ℕ, _-_}
 use mathlib.Core.Bool.{Bool, false}

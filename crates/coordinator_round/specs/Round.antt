@@ -1,4 +1,4 @@
--- What the code asks before it runs a round and what it has done after it (document 01, 'A round').
+-- For the code alone: what it asks before it runs a round and what it has done after it (document 01, 'A round').
 use mathlib.Core.Path.{_≡_}
 use Prim.Native.Nat.{ℕ, _<_}
 use mathlib.Core.Bool.{true}

@@ -1,4 +1,5 @@
--- f, as the code counts it: f looks at the crash rounds, the ends and the rounds of these alone, so that steps, sets, counts and values are taken as none.
+-- For the code alone: f as it counts it. f looks at the crash rounds, the ends and the rounds of these alone, so that steps, sets, counts and values are
+-- taken as none.
 use mathlib.Core.List.{List, []}
 use Prim.Native.Nat.{ℕ}
 use Rattle.consensus.specs.Instance.{Fault}

@@ -1,4 +1,4 @@
--- The processes that crash in a round, as the code keeps them for all rounds at once.
+-- For the code alone: the processes by their crash rounds, as it keeps them for all rounds at once.
 use mathlib.Core.List.{List}
 use mathlib.Core.Path.{_≡_}
 use Prim.Native.Nat.{ℕ, _-_, _≤_}

@@ -1,4 +1,5 @@
-// The tables by value that a ticket is read into and a run is kept in. Process p (document 01: station) stands at place p - 1.
+// The table of a ticket's numbers, as reading it whole answers it, and the table by value that a run is kept in. Process p (document 01: station) stands
+// at place p - 1.
 // specs/ says which instance and which run a table stands for.
 
 // What a ticket describes. A process is correct where its crash round is 0; `reached` has the sets of step 01, and `counts` the counts of step 02.

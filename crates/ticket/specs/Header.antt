@@ -1,4 +1,4 @@
--- The code reads a ticket in two parts: what reading the header answers, and what it leaves to be read.
+-- For the code alone, which reads a ticket in two parts: what reading the header answers, and what it leaves to be read.
 use mathlib.Core.List.{List}
 use mathlib.Core.Path.{_≡_}
 use mathlib.Core.Bool.{true, cond}
