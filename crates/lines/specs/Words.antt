@@ -1,5 +1,5 @@
--- For the code alone: the bytes of a line as numbers. It hands a line on as its size and its last sixteen bytes, which are two words of 64 bits. No line of document
--- 01's base has more than thirteen.
+-- For the code alone: the bytes of a line as numbers. It hands a line on as its size and its last sixteen bytes, which are two words of 64 bits. No line
+-- of document 01's base has more than thirteen.
 use mathlib.Core.List.{List}
 use Prim.Native.Nat.{ℕ, _+_, _*_, _/_, _%_, _^_}
 use Rattle.general.specs.BigEndian.{number, bytesOf}
