@@ -41,4 +41,5 @@ module _ (text : List ℕ) (short : length text ≤ ticketLimit) where
     pub answers-line : {size head tail : ℕ} {next : Cursor} → ahead .line ≡ Line size head tail next
         → {answer said : HeaderAnswer} → answer ≡ headerSays (lineBytes size head tail) → answer ≡ said → withPlace said (ahead .at) ≡ headerOf text
     unfolding firstRead
-    answers-line {size} {head} {tail} {next} e given told = rw (advance-stands text 0 ahead advanced size head tail next e, sym told ∙ given) (sym (ap firstRead e) ∙ by-first)
+    answers-line {size} {head} {tail} {next} e given told =
+        rw (advance-stands text 0 ahead advanced size head tail next e, sym told ∙ given) (sym (ap firstRead e) ∙ by-first)
