@@ -31,7 +31,8 @@ struct part {
     unsigned crashed;
 };
 
-static unsigned digit(uint8_t c) { return c <= '9' ? c - '0' : c - 'A' + 10; }
+/* Letters are of either case. */
+static unsigned digit(uint8_t c) { return c <= '9' ? c - '0' : c >= 'a' ? c - 'a' + 10 : c - 'A' + 10; }
 
 /* The number that `bytes` bytes of a line of digits stand for. */
 static uint64_t number(const uint8_t *digits, unsigned bytes)

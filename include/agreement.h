@@ -18,8 +18,11 @@
  *   what its prototype says: one number, but of uc_settle any of the rounds that qualify. A call that is refused changes
  *   no byte. That is proved, for each call, of the code that this library is compiled from.
  *
- * A TICKET is text of at most 4,096 bytes. A line is an even, non-zero count of digits 0-9, A-F (capitals), closed by
- * byte 0A; two digits make a byte, numbers have their most significant byte first, and the first byte is the kind:
+ * A TICKET is text of at most 4,096 bytes. A line is an even, non-zero count of digits 0-9, A-F and a-f, closed by byte
+ * 0A. Letters are of either case, mixed in a line and in a byte as they come: two tickets that differ in the case of
+ * letters alone, run into equal buffers, get the same answer and leave the same bytes; settling them gives the same
+ * refusal, or a round that qualifies for both. Two digits make a byte, numbers have their most significant byte first,
+ * and the first byte is the kind:
  *
  *   01 n t                            once: n processes, 1 to 64, of which at most t < n crash
  *   02 process value(4)               n lines, processes 1 to n in order: what each proposes
@@ -31,7 +34,7 @@
  *                                     (0 to n - process), to n, n - 1 and so on downward; set is 0.
  *   04                                once: the end. Nothing follows.
  *
- * A RESULT is n + 1 lines of the same form, each of 16 digits and 0A:
+ * A RESULT is n + 1 lines of the same form, each of 16 digits and 0A; its letters are capitals:
  *
  *   11 process end round value(4)     for each process in order: end 01 decided, 02 crashed; the round in which it did;
  *                                     the value that it decided, 0 if it crashed
@@ -120,7 +123,7 @@ extern "C" {
 #endif
 
 /* The version of this header and of the library that is installed with it. */
-#define UC_VERSION "1.1"
+#define UC_VERSION "1.2"
 
 /* The most processes. */
 #define UC_MOST_PROCESSES 64
@@ -171,7 +174,7 @@ extern "C" {
  */
 #define UC_REFUSALS(X) \
     X(1, "the ticket has more than 4,096 bytes") \
-    X(2, "not a line: an even, non-zero count of digits 0-9 and A-F, closed by byte 0A") \
+    X(2, "not a line: an even, non-zero count of digits 0-9, A-F and a-f, closed by byte 0A") \
     X(3, "a kind of line not allowed here, a wrong length for its kind, or the ticket over before its 04") \
     X(4, "n or t outside the limits: n from 1 to 64, t below n") \
     X(5, "not the proposal of the next process") \

@@ -26,6 +26,7 @@ RESULT_LINES = {PROCESS: "UC_PROCESS_LINE_BYTES", LAST: "UC_LAST_LINE_BYTES"}
 DECIDED, CRASHED = 1, 2
 BEFORE_SENDING, DURING_DATA, DURING_COMMITS = 0, 1, 2
 DATA, COMMIT = "data", "commit"
+TICKET_DIGITS, RESULT_DIGITS = b"0123456789ABCDEFabcdef", b"0123456789ABCDEF"
 MOST_BYTES, MOST_PROCESSES = 4096, 64
 
 
@@ -108,16 +109,17 @@ def lines_of(text):
     return (pieces[:-1], True) if pieces[-1] == b"" else (pieces, False)
 
 
-def decoded(line):
+def decoded(line, digits=TICKET_DIGITS):
     """The bytes that a line's digits make; None if it is not a line."""
-    if len(line) % 2 or not re.fullmatch(rb"[0-9A-F]+", line):
+    if not line or len(line) % 2 or set(line) - set(digits):
         return None
     return bytes.fromhex(line.decode())
 
 
 def expected(lines, index, kind):
-    """The bytes of a line that must be there, of that kind."""
-    data = decoded(lines[index]) if index < len(lines) else None
+    """The bytes of a line that must be there, of that kind; those of a result have capitals."""
+    digits = RESULT_DIGITS if kind in RESULT_LINES else TICKET_DIGITS
+    data = decoded(lines[index], digits) if index < len(lines) else None
     if data is None or data[0] != kind or len(data) != length_of(kind):
         raise Unusable(f"line {index + 1} is not a line {kind:02X} of {length_of(kind)} bytes")
     return data
@@ -215,13 +217,19 @@ class Refused:
 def read_result(ticket, result):
     """What a ticket was answered: a Run with its rounds played, or a Refused."""
     said, _ = lines_of(result)
-    first = decoded(said[0]) if said else None
+    first = decoded(said[0], RESULT_DIGITS) if said else None
     if first and first[0] == REFUSAL and len(first) == LENGTHS[REFUSAL]:
         text = refusal_texts().get(first[1], "no refusal of this version")
         return Refused(first[1], number(first[2:]), text)
     run = read_run(lines_of(ticket)[0], said)
     play(run)
     return run
+
+
+def run_rounds(result):
+    """The rounds of an accepted ticket's run, from its result's last line."""
+    said, _ = lines_of(result)
+    return expected(said, len(said) - 1, LAST)[1]
 
 
 def read_run(ticket, result):
@@ -315,12 +323,11 @@ def reasons(ticket, refused):
     if refused.line == len(lines) + 1:
         return [f"The ticket is over after {counted(len(lines), 'line')}, and none of them is the closing 04."]
     line = lines[refused.line - 1]
-    if refused.number == 2:
-        return line_reasons(line, closed or refused.line < len(lines))
     data = decoded(line)
     n, t = (decoded(lines[0]) or b"\0\0\0")[1:3] if refused.line > 1 else (0, 0)
     before = [decoded(earlier) for earlier in lines[: refused.line - 1]]
     found = {
+        2: lambda: line_reasons(line, closed or refused.line < len(lines)),
         3: lambda: kind_reasons(data, before, n),
         4: lambda: limit_reasons(data[1], data[2]),
         5: lambda: [f"It is of process {data[1]}; the next one is process {refused.line - 1}."],
@@ -335,9 +342,9 @@ def line_reasons(line, closed):
     found = []
     if not line:
         found.append("The line is empty.")
-    other = sorted({byte for byte in line if byte not in b"0123456789ABCDEF"})
+    other = sorted(set(line) - set(TICKET_DIGITS))
     if other:
-        found.append(f"It has other bytes than digits 0-9 and A-F: {', '.join(map(byte_text, other[:8]))}.")
+        found.append(f"It has other bytes than digits 0-9, A-F and a-f: {', '.join(map(byte_text, other[:8]))}.")
     elif len(line) % 2:
         found.append(f"It has {counted(len(line), 'digit')}, which is an odd count.")
     if not closed:

@@ -4,9 +4,11 @@
  * called with (seed-corpus writes inputs of this form). Checked is first what
  * needs no second implementation: answers in the documented ranges, equal
  * answers to equal calls, refused calls that change nothing, bytes behind
- * those written left alone, and of every result that the processes agree
- * (document 01, and demand 3); and then that the second implementation answers
- * alike and leaves the same bytes.
+ * those written left alone, of every result that the processes agree (document
+ * 01, and demand 3) and that it has no small letter, and that a ticket in other
+ * letters is answered alike and leaves the same bytes (document 02, Paper 1);
+ * and then that the second implementation answers alike and leaves the same
+ * bytes.
  *
  * libagreement.a is not instrumented: the fuzzer is led by the coverage of the
  * second implementation, which runs the same input, and of this file. */
@@ -119,8 +121,28 @@ static void check_same(Lent first, Lent second) {
     CHECK(memcmp(first.bytes, second.bytes, first.length) == 0);
 }
 
+static int is_small(uint8_t byte) { return byte >= 'a' && byte <= 'z'; }
+
+static int is_letter(uint8_t byte) { return is_small(byte) || (byte >= 'A' && byte <= 'Z'); }
+
+/* A copy of a text between two guards, in which some letters, or all, are of
+ * the other case; which ones, the text's own bytes say. */
+static Lent lend_in_other_letters(Input text) {
+    Lent other = lend(text.bytes, text.length);
+    uint32_t chance = 1;
+    for (size_t at = 0; at < text.length; at++) chance = chance * 31 + text.bytes[at];
+    int all = chance >> 16 & 1;
+    for (size_t at = 0; at < text.length; at++) {
+        if (!is_letter(text.bytes[at])) continue;
+        chance = chance * 1664525 + 1013904223;
+        if (all || chance >> 31) other.bytes[at] ^= 'a' ^ 'A';
+    }
+    return other;
+}
+
 static unsigned digit_value(uint8_t digit) {
     if (digit >= '0' && digit <= '9') return digit - '0';
+    if (digit >= 'a' && digit <= 'f') return digit - 'a' + 10u;
     CHECK(digit >= 'A' && digit <= 'F');
     return digit - 'A' + 10u;
 }
@@ -148,13 +170,14 @@ static void check_refusal(uint64_t answer, Input ticket, uint64_t last_number) {
     if (number == 4) CHECK(line == 1);
 }
 
-/* A result by itself: its form, agreement, validity, f + 1 rounds, and the
- * bound on messages. An accepted ticket has no blanks, so the proposals stand
- * at fixed places in it. */
+/* A result by itself: its form and letters, agreement, validity, f + 1 rounds,
+ * and the bound on messages. An accepted ticket has no blanks, so the proposals
+ * stand at fixed places in it. */
 static void check_result(const uint8_t *result, uint64_t length, Input ticket) {
     uint32_t n = number_in(ticket.bytes, 1, 1), t = number_in(ticket.bytes, 2, 1);
     const uint8_t *proposals = ticket.bytes + 7;
     CHECK(1 <= n && n <= MOST_PROCESSES && t < n && length == LINE * (n + 1));
+    for (uint64_t at = 0; at < length; at++) CHECK(!is_small(result[at]));
     const uint8_t *last = result + LINE * n;
     uint32_t rounds = number_in(last, 1, 1), f = number_in(last, 2, 1);
     uint32_t k = number_in(last, 3, 1);
@@ -197,6 +220,26 @@ static uint64_t run_ample(Input ticket, uint8_t result[LONGEST_RESULT]) {
     return answer;
 }
 
+/* Runs the ticket in other letters into an equal buffer: equal answer, equal bytes. */
+static void check_run_in_other_letters(Input ticket, uint64_t answer, Lent output) {
+    Lent text = lend_in_other_letters(ticket);
+    Lent other_output = lend(NULL, output.length), second_output = lend(NULL, output.length);
+    CHECK(uc_run(text.bytes, text.length, other_output.bytes, output.length) == answer);
+    CHECK(second_run(text.bytes, text.length, second_output.bytes, output.length) == answer);
+    check_same(output, other_output);
+    check_same(output, second_output);
+    take_back(text);
+    take_back(other_output);
+    take_back(second_output);
+}
+
+static void check_settling_in_other_letters(Input ticket, uint64_t answer) {
+    Lent text = lend_in_other_letters(ticket);
+    CHECK(uc_settle(text.bytes, text.length) == answer);
+    CHECK(second_settles(text.bytes, text.length, answer));
+    take_back(text);
+}
+
 static void fuzz_run(Input input) {
     size_t room = take_number(&input, 2) % (2 * LONGEST_RESULT);
     uint8_t ample[LONGEST_RESULT];
@@ -206,6 +249,7 @@ static void fuzz_run(Input input) {
     uint64_t answer = uc_run(text.bytes, text.length, output.bytes, output.length);
     CHECK(second_run(text.bytes, text.length, second_output.bytes, room) == answer);
     check_same(output, second_output);
+    check_run_in_other_letters(input, answer, output);
     if (expected >= REFUSED) {
         check_refusal(expected, input, 8);
         CHECK(answer == expected && untouched_from(output, 0));
@@ -229,6 +273,7 @@ static void fuzz_settle(Input input) {
     Lent text = lend(input.bytes, input.length);
     uint64_t answer = uc_settle(text.bytes, text.length);
     CHECK(second_settles(text.bytes, text.length, answer));
+    check_settling_in_other_letters(input, answer);
     if (written >= REFUSED) {
         CHECK(answer == written);
         check_refusal(answer, input, 8);

@@ -1,9 +1,10 @@
-//! A fixed corpus of tickets: what the paper names, each size, each step, each
-//! refusal at its first, a middle and its last possible line, and random ones.
+//! A fixed corpus of tickets: what the papers name, each size, each step, each
+//! refusal at its first, a middle and its last possible line, letters of either
+//! case and what is no digit, and random ones.
 
 use std::collections::HashSet;
 
-use crate::generate::{damaged, decode_line, decoded_lines, encode_lines, ticket};
+use crate::generate::{damaged, decode_line, decoded_lines, encode_lines, ticket, written};
 use crate::report::result_length;
 use crate::rng::Rng;
 use crate::ticket::{processes_above, Failure, Ticket, LONGEST_TICKET, MOST_PROCESSES};
@@ -62,13 +63,16 @@ fn systematic(rng: &mut Rng) -> Vec<Entry> {
     entries.extend(wrong_sets_and_counts());
     entries.extend(too_many_failures());
     entries.extend(last_lines());
+    entries.extend(small_and_mixed_letters());
+    entries.extend(refused_in_other_letters());
+    entries.extend(wrong_bytes());
     entries.extend(each_room());
     entries
 }
 
 fn random_entry(rng: &mut Rng) -> Entry {
     let ticket = ticket(rng, 24);
-    let text = if rng.one_in(3) { ticket.text() } else { damaged(rng, &ticket) };
+    let text = if rng.one_in(3) { written(rng, &ticket) } else { damaged(rng, &ticket) };
     let room = if rng.one_in(6) {
         result_length(ticket.n) - 2 + rng.below(4)
     } else {
@@ -89,7 +93,7 @@ fn first_crash(n: u8, t: u8, crashing: u8, how: impl Fn(u8) -> Failure) -> Ticke
 }
 
 /// Each n from 1 to 64: once as small a ticket as can be, and once with the
-/// largest t and crashes of each step.
+/// largest t and crashes of each step, in capitals, small letters and both.
 fn each_size(rng: &mut Rng) -> Vec<Entry> {
     let mut entries = Vec::new();
     for n in 1..=MOST_PROCESSES {
@@ -101,7 +105,11 @@ fn each_size(rng: &mut Rng) -> Vec<Entry> {
             1 => Failure::sending_commits(process, 1),
             _ => Failure::sending_data(process, processes_above(process, n) & every_other),
         });
-        entries.push(Entry::ample(busy.text()));
+        entries.push(Entry::ample(match n % 3 {
+            0 => busy.text(),
+            1 => busy.text().to_ascii_lowercase(),
+            _ => mixed(&busy.text(), 0),
+        }));
     }
     entries
 }
@@ -162,6 +170,10 @@ fn entries_of(texts: &[Vec<Vec<u8>>]) -> Vec<Entry> {
     texts.iter().map(|lines| Entry::ample(encode_lines(lines))).collect()
 }
 
+/// The first line of [`sound`], a middle one, the last ones and one past the
+/// last, from 0 on: where every fault is put.
+const EVERY_FAULT: [usize; 5] = [0, 5, 8, 10, 11];
+
 /// Refusal 2 at each line, one past the last, and without the last 0A.
 fn wrong_texts() -> Vec<Entry> {
     let text = sound().to_string();
@@ -176,10 +188,10 @@ fn wrong_texts() -> Vec<Entry> {
             format!("{line}0"),
             format!(" {line}"),
             format!("{line}\r"),
-            format!("{}a", &line[..line.len() - 1]),
+            format!("{}{}", &line[..line.len() - 1], if at % 2 == 0 { 'g' } else { '`' }),
         ];
-        // Each fault at the first, a middle and the last lines; one elsewhere.
-        let kept = if [0, 5, 8, 10, 11].contains(&at) { broken.len() } else { 1 };
+        // Each fault at some lines; one elsewhere.
+        let kept = if EVERY_FAULT.contains(&at) { broken.len() } else { 1 };
         for wrong in &broken[broken.len() - kept..] {
             let mut lines = lines.clone();
             lines.splice(at..lines.len().min(at + 1), [wrong.as_str()]);
@@ -191,7 +203,6 @@ fn wrong_texts() -> Vec<Entry> {
     texts.push(text.clone() + "x");
     texts.push(text.clone() + "0");
     texts.push(text.replace('\n', "\r\n"));
-    texts.push(text.to_lowercase());
     texts.into_iter().map(Entry::ample).collect()
 }
 
@@ -202,7 +213,9 @@ fn misplaced_lines() -> Vec<Entry> {
     let mut texts = vec![lines.clone()];
     for at in 0..=lines.len() {
         texts.push(lines[..at].to_vec());
-        for kind in [0x00, 0x01, 0x02, 0x03, 0x04, 0x05, 0xFF] {
+        let kinds = [0x01, 0x02, 0x03, 0x04, 0x05, 0x00, 0xFF];
+        let kept = if EVERY_FAULT.contains(&at) { kinds.len() } else { 5 };
+        for &kind in &kinds[..kept] {
             let mut changed = lines.clone();
             if at < lines.len() {
                 changed[at][0] = kind;
@@ -321,6 +334,85 @@ fn last_lines() -> Vec<Entry> {
     texts.into_iter().map(Entry::ample).collect()
 }
 
+/// A ticket that has letters in every field that can have some: lines 2 to 13
+/// are proposals, 14 to 18 failures.
+fn full_of_letters() -> Ticket {
+    let proposals = (0..12).map(|place| 0x1111_1111 * (10 + place % 6)).collect();
+    let failures = vec![
+        Failure::sending_commits(1, 0x0B),
+        Failure::sending_data(2, 0xABC),
+        Failure::sending_data(3, 0xDE8),
+        Failure::sending_data(4, 0xFF0),
+        Failure::before_sending(10, 0x0B),
+    ];
+    Ticket { n: 12, t: 11, proposals, failures }
+}
+
+/// The text with every other of its letters small, from the first or from the
+/// second on.
+fn mixed(text: &[u8], first: usize) -> Vec<u8> {
+    let mut text = text.to_vec();
+    let letters = text.iter_mut().filter(|byte| byte.is_ascii_alphabetic());
+    letters.skip(first).step_by(2).for_each(|letter| letter.make_ascii_lowercase());
+    text
+}
+
+/// Accepted tickets in small letters, and in small letters and capitals mixed,
+/// within one byte too.
+fn small_and_mixed_letters() -> Vec<Entry> {
+    let [case_1, case_9] = [1, 9].map(|number| worked::case(number).text());
+    let letters = full_of_letters().text();
+    let small = [&case_1, &case_9, &letters].map(|text| text.to_ascii_lowercase());
+    let mixed = [mixed(&case_9, 1), mixed(&letters, 0), mixed(&letters, 1)];
+    small.into_iter().chain(mixed).map(Entry::ample).collect()
+}
+
+/// Refusals 3 to 8 of texts in small and in mixed letters, which are digits:
+/// each for one wrong byte in a line.
+fn refused_in_other_letters() -> Vec<Entry> {
+    let changes = [
+        (2, 0, 0xAF),
+        (1, 2, 0x0C),
+        (11, 1, 0x0F),
+        (1, 2, 0x04),
+        (18, 2, 0x0D),
+        (14, 3, 0xEF),
+        (15, 10, 0x1A),
+        (14, 12, 0x0C),
+    ];
+    let texts = changes.map(|(line, place, value)| {
+        let mut lines = decoded_lines(&full_of_letters());
+        lines[line - 1][place] = value;
+        let text = encode_lines(&lines);
+        if line % 2 == 0 {
+            text.to_ascii_lowercase()
+        } else {
+            mixed(&text, 0)
+        }
+    });
+    texts.into_iter().map(Entry::ample).collect()
+}
+
+/// Refusal 2 for a byte that is next to the digits, or is a digit or 0A but for
+/// one bit.
+fn wrong_bytes() -> Vec<Entry> {
+    let sound = plain(1, 0, vec![]).text();
+    let next_to_digits = b"/:@G`g\xC1\xE1".iter().copied();
+    let mut texts = Vec::new();
+    for (at, byte) in (11..19).cycle().zip(next_to_digits.chain(0x10..=0x19)) {
+        let mut text = sound.clone();
+        text[at] = byte;
+        texts.push(text);
+    }
+    let ends = (0..sound.len()).filter(|&at| sound[at] == b'\n');
+    for end in ends {
+        let mut text = sound.clone();
+        text[end] = b'*';
+        texts.push(text);
+    }
+    texts.into_iter().map(Entry::ample).collect()
+}
+
 /// Refusal 9, and just not refusal 9.
 fn each_room() -> Vec<Entry> {
     let mut entries = Vec::new();
@@ -342,6 +434,7 @@ fn each_room() -> Vec<Entry> {
 #[cfg(test)]
 mod tests {
     use super::*;
+    use crate::refusal::{Reason, Refusal};
     use crate::Simulator;
     use std::collections::BTreeSet;
 
@@ -354,18 +447,80 @@ mod tests {
     #[test]
     fn replay_takes_every_entry() {
         let entries = corpus(1, 600);
+        assert_eq!(entries.len(), 600);
         assert!(entries.iter().all(|entry| entry.text.len() <= LONGEST_TEXT));
         assert!(entries.iter().all(|entry| entry.room <= LONGEST_ROOM));
     }
 
-    #[test]
-    fn the_systematic_part_shows_what_it_is_for() {
+    /// What the second implementation answers, without writing it down.
+    fn answers(entries: &[Entry]) -> Vec<Result<usize, Refusal>> {
         let mut simulator = Simulator::new();
         let mut output = vec![0; LONGEST_ROOM];
+        let entries = entries.iter();
+        entries.map(|Entry { text, room }| simulator.run(text, &mut output[..*room])).collect()
+    }
+
+    const SMALL: &[u8] = b"abcdef";
+    const CAPITAL: &[u8] = b"ABCDEF";
+
+    fn has(text: &[u8], digits: &[u8]) -> bool {
+        text.iter().any(|byte| digits.contains(byte))
+    }
+
+    #[test]
+    fn small_and_mixed_letters_are_accepted() {
+        let entries = small_and_mixed_letters();
+        assert!(answers(&entries).iter().all(Result::is_ok));
+        let in_one_byte = |digits: &[u8]| {
+            let bytes = entries.iter().flat_map(|entry| entry.text.split(|&byte| byte == b'\n'));
+            let mut bytes = bytes.flat_map(|line| line.chunks_exact(2));
+            bytes.any(|pair| pair == digits)
+        };
+        for letter in b'a'..=b'f' {
+            let capital = letter.to_ascii_uppercase();
+            assert!(in_one_byte(&[letter, capital]) && in_one_byte(&[capital, letter]));
+            assert!(in_one_byte(&[letter, letter]));
+        }
+        let corpus = corpus(1, 600);
+        assert!(entries.iter().all(|entry| corpus.contains(entry)));
+        let accepted = corpus.iter().zip(answers(&corpus)).filter(|(_, answer)| answer.is_ok());
+        let (mut small, mut mixed) = (0, 0);
+        for (Entry { text, .. }, _) in accepted.filter(|(entry, _)| has(&entry.text, SMALL)) {
+            let counted = if has(text, CAPITAL) { &mut mixed } else { &mut small };
+            *counted += 1;
+        }
+        assert!(small >= 20 && mixed >= 20, "{small} {mixed}");
+    }
+
+    #[test]
+    fn refusals_in_other_letters_are_for_what_their_bytes_say() {
+        let answers = answers(&refused_in_other_letters());
+        let refused: Vec<(u8, u16)> = answers
+            .into_iter()
+            .map(|answer| answer.expect_err("a refusal"))
+            .map(|refusal| (refusal.reason.number(), refusal.line))
+            .collect();
+        let expected = [(3, 2), (4, 1), (5, 11), (6, 18), (7, 18), (7, 14), (8, 15), (8, 14)];
+        assert_eq!(refused, expected);
+    }
+
+    #[test]
+    fn wrong_bytes_are_refused_with_2() {
+        let entries = wrong_bytes();
+        for (entry, answer) in entries.iter().zip(answers(&entries)) {
+            assert_eq!(answer.expect_err("a refusal").reason, Reason::NotALine, "{entry:?}");
+        }
+        for byte in [b'`', b'g', b'G', b'@', b'/', b':', b'*'].into_iter().chain(0x10..=0x19) {
+            assert!(entries.iter().any(|entry| entry.text.contains(&byte)));
+        }
+    }
+
+    #[test]
+    fn the_systematic_part_shows_what_it_is_for() {
         let (mut refusals, mut sizes) = (BTreeSet::new(), BTreeSet::new());
         let entries = systematic(&mut Rng::new(1));
-        for Entry { text, room } in &entries {
-            match simulator.run(text, &mut output[..*room]) {
+        for answer in answers(&entries) {
+            match answer {
                 Ok(length) => sizes.insert(length / 17 - 1),
                 Err(refusal) => refusals.insert((refusal.reason.number(), refusal.line)),
             };

@@ -3,6 +3,10 @@
 use crate::rng::Rng;
 use crate::ticket::{processes_above, Failure, Ticket, MOST_PROCESSES};
 
+/// The bit by which a small letter differs from its capital. In other bytes it
+/// is damage: 0A becomes 2A, and the digits 0 to 9 become bytes 10 to 19.
+const CASE: u8 = b'a' ^ b'A';
+
 /// Values at which implementations are likely to differ.
 const EDGE_VALUES: [u32; 5] = [0, 1, 0x7FFF_FFFF, 0x8000_0000, 0xFFFF_FFFF];
 
@@ -62,8 +66,36 @@ fn failure(rng: &mut Rng, process: u8, n: u8, t: u8) -> Failure {
     }
 }
 
-/// A ticket's text with one to three faults in it. Not every fault makes it a
-/// text that is refused.
+/// The text in other letters: each of them, digit or not, goes from small to
+/// capital or back, or only some do. One without letters stays as it is.
+pub fn in_other_letters(rng: &mut Rng, text: &[u8]) -> Vec<u8> {
+    let times = rng.pick(&[1, 2]);
+    let mut changed = text.to_vec();
+    for letter in changed.iter_mut().filter(|byte| byte.is_ascii_alphabetic()) {
+        if rng.one_in(times) {
+            *letter ^= CASE;
+        }
+    }
+    changed
+}
+
+/// The text in its own letters or, every other time, in others.
+fn lettered(rng: &mut Rng, text: Vec<u8>) -> Vec<u8> {
+    if rng.one_in(2) {
+        in_other_letters(rng, &text)
+    } else {
+        text
+    }
+}
+
+/// A ticket's text: half of them in capitals, the others in small and in mixed
+/// letters.
+pub fn written(rng: &mut Rng, ticket: &Ticket) -> Vec<u8> {
+    lettered(rng, ticket.text())
+}
+
+/// A ticket's text, in any letters, with one to three faults in it. Not every
+/// fault makes it a text that is refused.
 pub fn damaged(rng: &mut Rng, ticket: &Ticket) -> Vec<u8> {
     let mut lines = decoded_lines(ticket);
     for _ in 0..rng.below(3) {
@@ -76,7 +108,7 @@ pub fn damaged(rng: &mut Rng, ticket: &Ticket) -> Vec<u8> {
         damage_lines(rng, ticket, &mut lines);
         text = encode_lines(&lines);
     }
-    text
+    lettered(rng, text)
 }
 
 /// The ticket's lines as the bytes that their digits make.
@@ -150,14 +182,14 @@ fn damage_text(rng: &mut Rng, text: &mut Vec<u8>) {
         2 => text.insert(at, rng.pick(b"0AF\n\r ax")),
         3 => text.extend_from_slice(rng.pick(&[&b"\n"[..], b"04\n", b"04", b"0", b"\0", b"05\n"])),
         4 => text.resize(rng.pick(&[4095, 4096, 4097, 4098]), rng.pick(b"04\n\0")),
-        5 => text.make_ascii_lowercase(),
         _ if at == text.len() => text.clear(),
+        5 => text[at] ^= CASE,
         6 => {
             text.remove(at);
         }
         _ => {
             let any = rng.byte();
-            text[at] = rng.pick(&[any, b'0', b'/', b':', b'@', b'G', b'\n']);
+            text[at] = rng.pick(&[any, b'0', b'/', b':', b'@', b'G', b'`', b'g', b'\n']);
         }
     }
 }
@@ -176,16 +208,64 @@ mod tests {
         }
     }
 
+    /// Whether a text has a small letter that is a digit, and a byte that has
+    /// one of its digits as a small letter and the other as a capital.
+    fn small_and_mixed(text: &[u8]) -> (bool, bool) {
+        let small = |byte: &u8| matches!(byte, b'a'..=b'f');
+        let capital = |byte: &u8| matches!(byte, b'A'..=b'F');
+        let mut bytes = text.split(|&byte| byte == b'\n').flat_map(|line| line.chunks_exact(2));
+        let mixed = bytes.any(|pair| pair.iter().any(small) && pair.iter().any(capital));
+        (text.iter().any(small), mixed)
+    }
+
+    #[test]
+    fn tickets_are_written_in_letters_of_each_case() {
+        let mut rng = Rng::new(3);
+        let (mut small, mut mixed, mut capital) = (0, 0, 0);
+        for _ in 0..2000 {
+            let ticket = ticket(&mut rng, MOST_PROCESSES);
+            let text = written(&mut rng, &ticket);
+            let (is_small, is_mixed) = small_and_mixed(&text);
+            small += usize::from(is_small);
+            mixed += usize::from(is_mixed);
+            capital += usize::from(text == ticket.text());
+            assert_eq!(Ticket::parse(&text), Ok(ticket));
+        }
+        assert!(small > 500 && mixed > 100 && capital > 500, "{small} {mixed} {capital}");
+    }
+
+    #[test]
+    fn other_letters_are_of_the_same_text_and_change_nothing_else() {
+        let mut rng = Rng::new(4);
+        let every_byte: Vec<u8> = (0..=u8::MAX).collect();
+        let mut flipped = every_byte.clone();
+        for letter in flipped.iter_mut().filter(|byte| byte.is_ascii_alphabetic()) {
+            *letter ^= 0x20;
+        }
+        let mut counts = [0; 2];
+        for _ in 0..100 {
+            let other = in_other_letters(&mut rng, &every_byte);
+            assert!(other.eq_ignore_ascii_case(&every_byte) && other != every_byte);
+            counts[usize::from(other == flipped)] += 1;
+        }
+        assert!(counts[0] > 20 && counts[1] > 20, "{counts:?}");
+    }
+
     #[test]
     fn damage_shows_every_refusal_of_a_ticket() {
         let mut rng = Rng::new(2);
-        let mut shown = BTreeSet::new();
+        let (mut shown, mut in_small_letters) = (BTreeSet::new(), BTreeSet::new());
         for _ in 0..5000 {
             let ticket = ticket(&mut rng, MOST_PROCESSES);
-            if let Err(refusal) = Ticket::parse(&damaged(&mut rng, &ticket)) {
+            let text = damaged(&mut rng, &ticket);
+            if let Err(refusal) = Ticket::parse(&text) {
                 shown.insert(refusal.reason.number());
+                if small_and_mixed(&text).0 {
+                    in_small_letters.insert(refusal.reason.number());
+                }
             }
         }
         assert_eq!(shown, (1..=8).collect());
+        assert_eq!(in_small_letters, shown);
     }
 }

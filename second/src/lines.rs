@@ -1,4 +1,4 @@
-//! The lines of a ticket (01, "The ticket", first paragraph).
+//! The lines of a ticket (01, "The ticket", first paragraph; 02, Paper 1).
 
 use crate::refusal::{Reason, Refusal};
 
@@ -38,14 +38,12 @@ impl Line<'_> {
     }
 }
 
-fn is_digit(byte: u8) -> bool {
-    matches!(byte, b'0'..=b'9' | b'A'..=b'F')
-}
-
+/// What a digit stands for; letters are of either case (02, Paper 1).
 fn digit_value(digit: u8) -> u8 {
     match digit {
         b'0'..=b'9' => digit - b'0',
-        _ => digit - b'A' + 10,
+        b'A'..=b'F' => digit - b'A' + 10,
+        _ => digit - b'a' + 10,
     }
 }
 
@@ -83,7 +81,7 @@ impl<'a> Iterator for Lines<'a> {
             return None;
         }
         self.read += 1;
-        let count = self.rest.iter().take_while(|&&b| is_digit(b)).count();
+        let count = self.rest.iter().take_while(|byte| byte.is_ascii_hexdigit()).count();
         let (digits, rest) = self.rest.split_at(count);
         if count == 0 || count % 2 == 1 || rest.first() != Some(&b'\n') {
             return Some(Err(Reason::NotALine.at_line(self.read)));
@@ -96,6 +94,7 @@ impl<'a> Iterator for Lines<'a> {
 #[cfg(test)]
 mod tests {
     use super::*;
+    use std::collections::HashMap;
 
     #[test]
     fn digits_make_bytes_most_significant_first() {
@@ -105,17 +104,43 @@ mod tests {
     }
 
     #[test]
+    fn letters_of_either_case_make_the_same_bytes() {
+        let bytes = |text: &[u8]| Lines::of(text).next().unwrap().unwrap().number_at(0, 6);
+        for text in ["02abcdefaf09\n", "02ABCDEFAF09\n", "02aBcDeFaf09\n", "02AbCdEfAF09\n"] {
+            assert_eq!(bytes(text.as_bytes()), 0x02AB_CDEF_AF09, "{text:?}");
+        }
+    }
+
+    #[test]
+    fn these_22_bytes_are_digits_and_no_other() {
+        let digits = b"0123456789ABCDEFabcdef";
+        let values = (0..16).chain(10..16);
+        let value_of: HashMap<u8, u8> = digits.iter().copied().zip(values).collect();
+        for byte in 0..=u8::MAX {
+            let value = value_of.get(&byte);
+            for (text, weight) in [([byte, b'0', b'\n'], 16), ([b'0', byte, b'\n'], 1)] {
+                let line = Lines::of(&text).next().unwrap().ok();
+                let kind = line.map(|line| line.kind());
+                assert_eq!(kind, value.map(|value| value * weight), "{text:?}");
+            }
+        }
+    }
+
+    #[test]
     fn what_is_no_line_is_refused_at_its_number() {
-        let wrong = ["", "0", "040", "4", "0a", "04 ", " 04", "04\r", "G0", "@0", "/0", ":0"];
-        for text in wrong {
+        let wrong = ["", "0", "040", "4", "a", "04 ", " 04", "04\r", "G0", "@0", "/0", ":0"];
+        let small = ["g0", "0g", "`0", "0`", "0x04", "Aag", "\x10\x14", "\x190"];
+        for text in wrong.into_iter().chain(small) {
             let text = format!("04\n{text}\n");
             let mut lines = Lines::of(text.as_bytes());
             assert!(lines.next().unwrap().is_ok());
             let refusal = lines.next().unwrap().unwrap_err();
             assert_eq!(refusal, Reason::NotALine.at_line(2), "{text:?}");
         }
-        let unclosed = Lines::of(b"04").next().unwrap().unwrap_err();
-        assert_eq!(unclosed, Reason::NotALine.at_line(1));
+        for unclosed in [&b"04"[..], b"04*", b"04*04\n", b"0a"] {
+            let refusal = Lines::of(unclosed).next().unwrap().unwrap_err();
+            assert_eq!(refusal, Reason::NotALine.at_line(1));
+        }
     }
 
     #[test]

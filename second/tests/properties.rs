@@ -1,8 +1,9 @@
-//! What demands 2 and 3 and the paper's bound claim of every run, tried on
-//! random tickets.
+//! What demands 2 and 3, the paper's bound and Paper 1 of document 02 claim of
+//! every run, tried on random tickets.
 
 use second::generate;
 use second::process::Status;
+use second::report::result_length;
 use second::rng::Rng;
 use second::separate::run_separately;
 use second::simulation::{Simulation, Totals};
@@ -79,6 +80,29 @@ fn messages_stay_within_the_papers_bound() {
         assert!(k <= u32::from(totals.crashes) + 1, "{ticket}");
         assert!(messages + k * (k - 1) / 2 <= k * (2 * n - k - 1), "{ticket}");
     }
+}
+
+#[test]
+fn texts_that_differ_in_the_case_of_letters_alone_are_answered_alike() {
+    let mut simulator = Simulator::new();
+    let (mut differing, mut refused) = (0, 0);
+    for (mut rng, ticket) in random_tickets(5) {
+        let written = generate::written(&mut rng, &ticket);
+        let damaged = generate::damaged(&mut rng, &ticket);
+        for text in [written, damaged] {
+            let other = generate::in_other_letters(&mut rng, &text);
+            let room = result_length(ticket.n) - usize::from(rng.one_in(8));
+            let printed = simulator.print(&text, room);
+            let shown = text.escape_ascii();
+            assert_eq!(simulator.print(&other, room), printed, "{shown}");
+            assert!(!printed.bytes().any(|byte| byte.is_ascii_lowercase()), "{shown}");
+            let rounds = simulator.settling_rounds(&text);
+            assert_eq!(simulator.settling_rounds(&other), rounds, "{shown}");
+            differing += usize::from(other != text);
+            refused += usize::from(other != text && printed.starts_with("1F"));
+        }
+    }
+    assert!(differing > 4000 && refused > 1000, "{differing} {refused}");
 }
 
 #[test]

@@ -15,6 +15,15 @@ fn vectors(name: &str) -> Vec<Object> {
     text.lines().map(Object::parse).collect()
 }
 
+/// The output's length; ample if the vector does not say it.
+fn room(vector: &Object) -> usize {
+    if vector.has("room") {
+        vector.number("room") as usize
+    } else {
+        2000
+    }
+}
+
 #[test]
 fn tickets() {
     let mut simulator = Simulator::new();
@@ -22,8 +31,7 @@ fn tickets() {
     for (line, vector) in (1..).zip(&vectors) {
         let about = format!("line {line}: {}", vector.text("about"));
         let ticket = vector.bytes("ticket");
-        let room = if vector.has("room") { vector.number("room") } else { 2000 };
-        let printed = simulator.print(&ticket, room as usize);
+        let printed = simulator.print(&ticket, room(vector));
         assert_eq!(printed, vector.text("result"), "{about}");
 
         let rounds = simulator.settling_rounds(&ticket);
@@ -36,6 +44,26 @@ fn tickets() {
         }
     }
     assert!(vectors.len() >= 600);
+}
+
+#[test]
+fn tickets_of_paper_1() {
+    let mut simulator = Simulator::new();
+    let vectors = vectors("paper-01.jsonl");
+    let mut in_other_letters = 0;
+    for (line, vector) in (1..).zip(&vectors) {
+        let about = format!("line {line}: {}", vector.text("about"));
+        let ticket = vector.written("ticket").expect(&about);
+        let other = vector.written("ticket_in_other_letters").unwrap_or(ticket.clone());
+        assert!(other.eq_ignore_ascii_case(&ticket), "{about}");
+        in_other_letters += usize::from(other != ticket);
+        for text in [&ticket, &other] {
+            assert_eq!(simulator.print(text, room(vector)), vector.text("result"), "{about}");
+        }
+        let rounds = [&ticket, &other].map(|text| simulator.settling_rounds(text));
+        assert_eq!(rounds[0], rounds[1], "{about}");
+    }
+    assert!(vectors.len() >= 300 && in_other_letters >= 140);
 }
 
 #[test]

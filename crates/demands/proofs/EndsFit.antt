@@ -49,7 +49,7 @@ module _ (x : Instance) (formed : WellFormed x) where
       by-state (decided r v) e = decided-fits p r v (record { process = process; state = e })
       by-state (crashed r) e = crashed-fits p r process e
 
-  run-fits : RunFits (runOf x) (crashesOf x) (x .processes)
+  pub run-fits : RunFits (runOf x) (crashesOf x) (x .processes)
   unfolding endOf stateOf
   run-fits =
       let fit = counts-fit x formed in

@@ -11,4 +11,6 @@ pub mod Demand2
 pub mod Demand3
 pub mod BoundClaim
 pub mod IdleClaim
+pub mod ResultInCapitals
+pub mod LettersClaim
 pub mod Witnesses

@@ -27,7 +27,7 @@ Fits (decided r v) = (r < 256) × (v < 2 ^ 32)
 Fits (crashed r) = r < 256
 
 -- The bytes of a process's line.
-abbrev lineBytes : ℕ → State → List ℕ
+abbrev pub lineBytes : ℕ → State → List ℕ
 lineBytes p s = 0x11 ∷ p ∷ endBytes s
 
 abbrev processLineOf : ℕ → State → Line
@@ -41,7 +41,7 @@ four-then a b c d bs ha hb hc hd h (suc (suc zero)) = hc
 four-then a b c d bs ha hb hc hd h (suc (suc (suc zero))) = hd
 four-then a b c d bs ha hb hc hd h (suc (suc (suc (suc i)))) = h i
 
-process-line-bytes : (p : ℕ) (s : State) → p < 256 → Fits s → Bytes (lineBytes p s)
+pub process-line-bytes : (p : ℕ) (s : State) → p < 256 → Fits s → Bytes (lineBytes p s)
 unfolding Fits endBytes
 process-line-bytes p (undecided v) h fits = absurd fits
 process-line-bytes p (decided r v) h fits = four-then 0x11 p 1 r (bytesOf 4 v) (omega arith) h (omega arith) (fits .0) (bytes-of-number 4 v)
@@ -77,19 +77,21 @@ pub record RunFits (run : Run) (f n : ℕ) : Type 0 where
   pub commitsSent : run .commitsSent < 65536
 
 module _ (run : Run) (f n : ℕ) (fits : RunFits run f n) where
-  abbrev countBytes : List ℕ
+  abbrev pub countBytes : List ℕ
   countBytes = bytesOf 2 (run .dataSent) ++ bytesOf 2 (run .commitsSent)
 
-  abbrev lastBytes : List ℕ
+  abbrev pub lastBytes : List ℕ
   lastBytes = 0x12 ∷ run .rounds ∷ f ∷ run .speakers ∷ countBytes
+
+  pub last-line-bytes : Bytes lastBytes
+  last-line-bytes =
+      let counts : Bytes countBytes =
+      bytes-append (bytesOf 2 (run .dataSent)) (bytesOf 2 (run .commitsSent)) (bytes-of-number 2 (run .dataSent)) (bytes-of-number 2 (run .commitsSent)) in
+      four-then 0x12 (run .rounds) f (run .speakers) countBytes (omega arith) (fits .rounds) (fits .crashes) (fits .speakers) counts
 
   last-read-back : (rest : List ℕ) → linesOf (lastLine run f ++ rest) ≡ bytes lastBytes ∷ linesOf rest
   unfolding lastLine
-  last-read-back rest =
-      let counts : Bytes countBytes =
-      bytes-append (bytesOf 2 (run .dataSent)) (bytesOf 2 (run .commitsSent)) (bytes-of-number 2 (run .dataSent)) (bytes-of-number 2 (run .commitsSent)) in
-      line-read-back 0x12 (run .rounds ∷ f ∷ run .speakers ∷ countBytes) rest
-      (four-then 0x12 (run .rounds) f (run .speakers) countBytes (omega arith) (fits .rounds) (fits .crashes) (fits .speakers) counts)
+  last-read-back rest = line-read-back 0x12 (run .rounds ∷ f ∷ run .speakers ∷ countBytes) rest last-line-bytes
 
   -- All lines of the result.
   result-read-back : (rest : List ℕ)

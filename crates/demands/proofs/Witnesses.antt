@@ -34,9 +34,11 @@ use Rattle.formats.specs.ResultLine.{endBytes, processLine, lastLine, joined, r
 use Rattle.formats.specs.Running.{resultIn, running, bufferAfter}
 use Rattle.formats.specs.Code.{runCode}
 use Rattle.formats.specs.Table.{textOf, opening}
+use Rattle.formats.proofs.LetteringCases.{lettering-cases}
 use Rattle.running.specs.Answer.{answerOf}
 use Rattle.demands.specs.PairedTexts.{CommitLine, PairedTexts, noLines, sameLine, countNoLower, missingLine}
-use Rattle.demands.specs.Witnesses.{crashText, moreCommitsText, noCrashText, PairMet, RunMet, Witnesses}
+use Rattle.demands.specs.Witnesses.{crashText, mixedText, moreCommitsText, noCrashText, PairMet, RunMet, Witnesses}
+use Rattle.demands.proofs.LettersClaim.{run-met-alike}
 
 -- Case 1's instance, but for process 1's fault.
 abbrev instanceWith : Fault → Instance
@@ -121,5 +123,10 @@ written =
       called = record { call = record { answered = refl; buffer = refl }; small = omega arith };
     }
 
+-- So does running its text in mixed letters.
+written-mixed : RunMet mixedText 85
+unfolding crashText mixedText
+written-mixed = run-met-alike crashText mixedText (lettering-cases .acceptedTexts .same) 85 written
+
 pub witnesses : Witnesses
-witnesses = record { moreCommits = more-commits; lineMissing = line-missing; written = written }
+witnesses = record { moreCommits = more-commits; lineMissing = line-missing; written = written; writtenMixed = written-mixed }

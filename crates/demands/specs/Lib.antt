@@ -7,4 +7,5 @@ pub mod Demand2
 pub mod Demand3
 pub mod BoundClaim
 pub mod IdleClaim
+pub mod LettersClaim
 pub mod Witnesses

@@ -1,19 +1,24 @@
--- The premises of the claims can be met: case 1 (document 01, 'Worked runs') is run, and paired with case 3 and with itself without its failure line.
+-- The premises of the claims can be met: case 1 (document 01, 'Worked runs') is run, as it stands and in mixed letters, and paired with case 3 and with itself
+-- without its failure line. (What else is answered on case 1 in mixed letters, and on refused texts in two letterings: formats/specs/LetteringCases.)
 use mathlib.Core.List.{List, [], _∷_, _++_}
 use Prim.Native.Nat.{ℕ}
 use Rattle.consensus.specs.Instance.{Instance}
 use Rattle.consensus.specs.Consensus.{Decides}
 use Rattle.coordinator.specs.Run.{endOf}
 use Rattle.formats.specs.Table.{textOf, opening, case1, case3}
+use Rattle.formats.specs.LetterRuns.{case1Mixed}
 use Rattle.running.specs.Answer.{Ran}
 use Rattle.running.specs.declared.RunAnswer.the-variants.{Written}
 use Rattle.demands.specs.Written.{CallWrote}
 use Rattle.demands.specs.PairedTexts.{PairedTexts}
 use Rattle.demands.specs.Demand3.{PairedInstances}
 
--- Case 1's text, case 3's, and case 1's without its failure line.
+-- Case 1's text, the same in mixed letters, case 3's, and case 1's without its failure line.
 unfoldable pub crashText : List ℕ
 crashText = textOf (case1 .ticket)
+
+unfoldable pub mixedText : List ℕ
+mixedText = textOf (case1Mixed .ticket)
 
 unfoldable pub moreCommitsText : List ℕ
 moreCommitsText = textOf (case3 .ticket)
@@ -41,3 +46,4 @@ pub record Witnesses : Type 0 where
   pub moreCommits : PairMet crashText moreCommitsText 2 1
   pub lineMissing : PairMet crashText noCrashText 2 1
   pub written : RunMet crashText 85
+  pub writtenMixed : RunMet mixedText 85

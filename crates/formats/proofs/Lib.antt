@@ -7,13 +7,17 @@ pub mod Keeping
 pub mod WellFormed
 pub mod RefusalRange
 pub mod ReadingCases
+pub mod ByteCases
 pub mod AnswerCases
 pub mod Described
 pub mod Marked
 pub mod Worked
+pub mod LetteringCases
 pub mod Digit
+pub mod Capitals
 pub mod LineSteps
 pub mod LineReadBack
+pub mod InCapitals
 pub mod ResultLength
 pub mod CodesApart
 pub mod FirstWrong

@@ -31,10 +31,11 @@ use Rattle.formats.specs.AnswerCases.{CodeCases}
 use Rattle.formats.specs.Marked.{writes, expected, MarkedCases}
 use Rattle.formats.specs.Table.{textOf, opening, opening64, cases}
 use Rattle.formats.specs.FurtherRuns.{furtherRuns}
+use Rattle.formats.specs.LetterRuns.{letterRuns}
 
 -- For each case the program writes what the case says.
 pub marked-cases : MarkedCases
-unfolding writes expected cases furtherRuns opening opening64 textOf ascii onesIn member ones64 number numberFrom bytesOf mapFrom pointFrom faultOf withinLimits arriving sends receives amongFirst reachAt reachIn reach stateOf crashesIn sentBy received afterOutcome after statesAfter isUndecided anyUndecided dataAt commitsAt countIn speaks dataIn commitsIn isIdle countsAsCrash crashCount initial withRound runTo runOf crashesOf digitValue isDigit scan closed unclosed linesFrom linesOf proceed readFrom isKind headerSays afterProposal proposalSays failureLine placesCrash allBetween suitsStep crashSays failureSays lineSays unproposed withProposal withCrash begin store accept atEnd readTicket digitOf hexDigits hexLine endBytes processLine lastLine joined resultLines resultText resultSize refusalLine resultIn running written programWrites
+unfolding writes expected cases furtherRuns letterRuns opening opening64 textOf ascii onesIn member ones64 number numberFrom bytesOf mapFrom pointFrom faultOf withinLimits arriving sends receives amongFirst reachAt reachIn reach stateOf crashesIn sentBy received afterOutcome after statesAfter isUndecided anyUndecided dataAt commitsAt countIn speaks dataIn commitsIn isIdle countsAsCrash crashCount initial withRound runTo runOf crashesOf digitValue isDigit scan closed unclosed linesFrom linesOf proceed readFrom isKind headerSays afterProposal proposalSays failureLine placesCrash allBetween suitsStep crashSays failureSays lineSays unproposed withProposal withCrash begin store accept atEnd readTicket digitOf hexDigits hexLine endBytes processLine lastLine joined resultLines resultText resultSize refusalLine resultIn running written programWrites
 marked-cases = record { numbers = refl; written = refl }
 
 -- A C caller is answered as the specs say.

@@ -14,11 +14,11 @@ use Rattle.formats.specs.Ticket.{atEnd, readTicket}
 use Rattle.formats.specs.ResultLine.{resultSize}
 use Rattle.formats.specs.Running.{resultIn, running}
 use Rattle.formats.specs.Table.{textOf, opening}
-use Rattle.formats.specs.ReadingCases.{verdictOf, afterOpening, tooLong, notLines, wrongKinds, limits, stations, tooMany}
+use Rattle.formats.specs.ReadingCases.{verdictOf, afterOpening, tooLong, notLines, smallLetters, wrongKinds, limits, stations, tooMany}
 use Rattle.formats.specs.ReadingCases.{places, steps, firstRules, readingRows, ReadingCases, roomRows, RoomCases}
 
 pub reading-cases : ReadingCases
-unfolding readingRows tooLong notLines wrongKinds limits stations tooMany places steps firstRules verdictOf opening afterOpening textOf ascii number numberFrom pointFrom withinLimits digitValue isDigit scan closed unclosed linesFrom linesOf proceed readFrom isKind headerSays afterProposal proposalSays failureLine placesCrash allBetween suitsStep crashSays failureSays lineSays unproposed withProposal withCrash begin store accept atEnd readTicket
+unfolding readingRows tooLong notLines smallLetters wrongKinds limits stations tooMany places steps firstRules verdictOf opening afterOpening textOf ascii number numberFrom pointFrom withinLimits digitValue isDigit scan closed unclosed linesFrom linesOf proceed readFrom isKind headerSays afterProposal proposalSays failureLine placesCrash allBetween suitsStep crashSays failureSays lineSays unproposed withProposal withCrash begin store accept atEnd readTicket
 reading-cases = record { rows = refl; answered = refl }
 
 pub room-cases : RoomCases

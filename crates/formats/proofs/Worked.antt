@@ -26,10 +26,11 @@ use Rattle.formats.specs.Accept.{unproposed, withProposal, withCrash, be
 use Rattle.formats.specs.Ticket.{atEnd, readTicket}
 use Rattle.formats.specs.Table.{textOf, opening}
 use Rattle.formats.specs.FurtherRuns.{furtherRuns}
+use Rattle.formats.specs.LetterRuns.{letterRuns}
 use Rattle.formats.specs.Worked.{qualifyingIn, SettlingRounds, boundsOf, Case9MeetsBound}
 
 pub settling-rounds : SettlingRounds
-unfolding SettlingRounds qualifyingTo qualifyingRounds qualifyingIn textOf ascii opening furtherRuns onesIn member ones64 number numberFrom mapFrom pointFrom faultOf withinLimits arriving sends receives amongFirst reachAt reachIn reach stateOf crashesIn sentBy received afterOutcome after statesAfter isUndecided anyUndecided dataAt commitsAt countIn speaks dataIn commitsIn isIdle countsAsCrash crashCount initial withRound runTo runOf crashesOf valuesHeld allAre oneValue qualifies digitValue isDigit scan closed unclosed linesFrom linesOf proceed readFrom isKind headerSays afterProposal proposalSays failureLine placesCrash allBetween suitsStep crashSays failureSays lineSays unproposed withProposal withCrash begin store accept atEnd readTicket
+unfolding SettlingRounds qualifyingTo qualifyingRounds qualifyingIn textOf ascii opening furtherRuns letterRuns onesIn member ones64 number numberFrom mapFrom pointFrom faultOf withinLimits arriving sends receives amongFirst reachAt reachIn reach stateOf crashesIn sentBy received afterOutcome after statesAfter isUndecided anyUndecided dataAt commitsAt countIn speaks dataIn commitsIn isIdle countsAsCrash crashCount initial withRound runTo runOf crashesOf valuesHeld allAre oneValue qualifies digitValue isDigit scan closed unclosed linesFrom linesOf proceed readFrom isKind headerSays afterProposal proposalSays failureLine placesCrash allBetween suitsStep crashSays failureSays lineSays unproposed withProposal withCrash begin store accept atEnd readTicket
 settling-rounds = refl
 
 pub case-9-meets-bound : Case9MeetsBound

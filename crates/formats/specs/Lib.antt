@@ -1,4 +1,5 @@
 pub mod Digit
+pub mod Capitals
 pub mod Line
 pub mod FailureLine
 pub mod LineVerdict
@@ -12,7 +13,10 @@ pub mod Running
 pub mod Settle
 pub mod Table
 pub mod FurtherRuns
+pub mod LetterRuns
+pub mod LetteringCases
 pub mod ReadingCases
+pub mod ByteCases
 pub mod AnswerCases
 pub mod Described
 pub mod Marked

@@ -1,4 +1,5 @@
--- The lines of a text (document 01, 'The ticket': "A line is an even, non-zero count of digits 0-9, A-F, closed by byte 0A. Two digits make a byte").
+-- The lines of a text (document 01, 'The ticket': "A line is an even, non-zero count of digits 0-9, A-F, closed by byte 0A. Two digits make a byte"; which
+-- bytes are digits, since document 02, Paper 1 a-f too, is said in Digit).
 -- A text is read one character at a time. What follows the last 0A is a line of its own, wrong for want of its 0A, unless nothing follows.
 use mathlib.Core.List.{List, [], _∷_, _++_}
 use Prim.Native.Nat.{ℕ, _+_, _*_}

@@ -5,6 +5,7 @@ use Prim.Native.Nat.{ℕ}
 use Rattle.formats.specs.Running.{programWrites}
 use Rattle.formats.specs.Table.{Case, textOf, cases}
 use Rattle.formats.specs.FurtherRuns.{furtherRuns}
+use Rattle.formats.specs.LetterRuns.{letterRuns}
 
 -- What the program writes for the case's ticket.
 unfoldable pub writes : Case → List ℕ
@@ -15,8 +16,8 @@ unfoldable pub expected : Case → List ℕ
 expected c = textOf (c .output)
 
 -- The claim: cases 1 to 12, each of them, are what the definitions give, from the ticket's text to the text written (document 01, 'Worked runs': "Cases 1
--- to 12 are the marked ones"); and so are the further runs.
+-- to 12 are the marked ones"); and so are the further runs and those in small letters.
 pub record MarkedCases : Type 0 where
-  pub numbers : map (λ (c : Case). c .number) (cases ++ furtherRuns)
-      ≡ 1 ∷ 2 ∷ 3 ∷ 4 ∷ 5 ∷ 6 ∷ 7 ∷ 8 ∷ 9 ∷ 10 ∷ 10 ∷ 11 ∷ 12 ∷ 13 ∷ 14 ∷ 15 ∷ 16 ∷ 17 ∷ []
-  pub written : map writes (cases ++ furtherRuns) ≡ map expected (cases ++ furtherRuns)
+  pub numbers : map (λ (c : Case). c .number) (cases ++ furtherRuns ++ letterRuns)
+      ≡ 1 ∷ 2 ∷ 3 ∷ 4 ∷ 5 ∷ 6 ∷ 7 ∷ 8 ∷ 9 ∷ 10 ∷ 10 ∷ 11 ∷ 12 ∷ 13 ∷ 14 ∷ 15 ∷ 16 ∷ 17 ∷ 18 ∷ 19 ∷ 20 ∷ 21 ∷ []
+  pub written : map writes (cases ++ furtherRuns ++ letterRuns) ≡ map expected (cases ++ furtherRuns ++ letterRuns)

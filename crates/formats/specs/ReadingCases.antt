@@ -47,8 +47,21 @@ notLines =
     ∷ (ascii "010402", refusedWith 2 1)
     ∷ (textOf opening ++ ascii "04", refusedWith 2 6)
     ∷ (afterOpening ("04" ∷ "" ∷ []), refusedWith 2 7)
-    ∷ (textOf ("01040a" ∷ []), refusedWith 2 1)
-    ∷ (textOf ("01 0402" ∷ []), refusedWith 2 1)
+    ∷ (textOf ("01 04020" ∷ []), refusedWith 2 1)
+    ∷ (textOf ("01040`" ∷ []), refusedWith 2 1)
+    ∷ (textOf ("01040g" ∷ []), refusedWith 2 1)
+    ∷ (textOf ("0104g2" ∷ []), refusedWith 2 1)
+    ∷ []
+
+-- n and t in small letters and in mixed ones (document 02, Paper 1): with t below n line 1 passes, and otherwise it is refusal 4.
+unfoldable pub smallLetters : List Row
+smallLetters =
+    (textOf ("01403f" ∷ []), refusedWith 3 2)
+    ∷ (textOf ("010b0a" ∷ []), refusedWith 3 2)
+    ∷ (textOf ("010a0A" ∷ []), refusedWith 4 1)
+    ∷ (textOf ("010f0E" ∷ []), refusedWith 3 2)
+    ∷ (textOf ("010F0f" ∷ []), refusedWith 4 1)
+    ∷ (textOf ("01040a" ∷ []), refusedWith 4 1)
     ∷ []
 
 -- Refusal 3: a kind not allowed here, a length that is not its kind's, a text over before its 04, at the line one past the last; after the 04 every kind.
@@ -163,11 +176,11 @@ firstRules =
     ∷ []
 
 unfoldable pub readingRows : List Row
-readingRows = tooLong ++ notLines ++ wrongKinds ++ limits ++ stations ++ tooMany ++ places ++ steps ++ firstRules
+readingRows = tooLong ++ notLines ++ smallLetters ++ wrongKinds ++ limits ++ stations ++ tooMany ++ places ++ steps ++ firstRules
 
--- The claim: reading answers as each row says, and there are 89 of them.
+-- The claim: reading answers as each row says, and there are 97 of them.
 pub record ReadingCases : Type 0 where
-  pub rows : length readingRows ≡ 89
+  pub rows : length readingRows ≡ 97
   pub answered : map (λ (row : Row). verdictOf (readTicket (row .0))) readingRows ≡ map (λ (row : Row). row .1) readingRows
 
 -- A text, the room for its result, and what running answers. Refusal 9, of no line, is looked at after all lines: 17(n + 1) bytes are enough and one less

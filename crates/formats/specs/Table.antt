@@ -4,7 +4,7 @@ use Prim.Native.Nat.{ℕ}
 use Prim.Native.String.{String}
 use Rattle.general.specs.Text.{ascii}
 
--- A ticket and the result or the refusal that it gets, under document 01's number, or from 13 on that of a further run.
+-- A ticket and the result or the refusal that it gets, under document 01's number, or from 13 on that of a further run, from 18 on in small letters.
 pub record Case : Type 0 where
   pub number : ℕ
   pub ticket : List String

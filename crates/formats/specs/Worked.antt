@@ -1,6 +1,6 @@
 -- What document 01 says of a case besides its result: which rounds qualify as settling round ('The result', last paragraph), and the two bounds on
 -- messages ('A round', third paragraph).
-use mathlib.Core.List.{List, [], _∷_, map}
+use mathlib.Core.List.{List, [], _∷_, _++_, map}
 use mathlib.Core.Path.{_≡_}
 use Prim.Native.Nat.{ℕ, _+_, _-_, _*_}
 use Rattle.consensus.specs.Instance.{Instance}
@@ -11,19 +11,22 @@ use Rattle.formats.specs.Reading.{Reading, accepted, refused}
 use Rattle.formats.specs.Ticket.{readTicket}
 use Rattle.formats.specs.Table.{Case, textOf, case1, case2, case3, case4, case5, case6, case7, case8, case9}
 use Rattle.formats.specs.FurtherRuns.{furtherRuns}
+use Rattle.formats.specs.LetterRuns.{letterRuns}
 
 -- The rounds that qualify in the run of a ticket as read.
 unfoldable pub qualifyingIn : Reading Instance → List ℕ
 qualifyingIn (accepted x) = qualifyingRounds x
 qualifyingIn (refused refusal line) = []
 
--- The claim: the rounds that qualify in cases 1 to 9 and in the further runs (document 01, 'The result': "In case 1 both 1 and 2 qualify").
+-- The claim: the rounds that qualify in cases 1 to 9, in the further runs and in those in small letters (document 01, 'The result': "In case 1 both 1 and 2
+-- qualify").
 unfoldable pub SettlingRounds : Type 0
 SettlingRounds =
     map (λ (c : Case). qualifyingIn (readTicket (textOf (c .ticket))))
-    (case1 ∷ case2 ∷ case3 ∷ case4 ∷ case5 ∷ case6 ∷ case7 ∷ case8 ∷ case9 ∷ furtherRuns)
+    (case1 ∷ case2 ∷ case3 ∷ case4 ∷ case5 ∷ case6 ∷ case7 ∷ case8 ∷ case9 ∷ furtherRuns ++ letterRuns)
     ≡ (1 ∷ 2 ∷ []) ∷ (1 ∷ []) ∷ (1 ∷ []) ∷ (2 ∷ []) ∷ (2 ∷ []) ∷ (3 ∷ []) ∷ (1 ∷ 2 ∷ []) ∷ (1 ∷ []) ∷ (1 ∷ 2 ∷ 3 ∷ 4 ∷ 5 ∷ 6 ∷ 7 ∷ [])
-    ∷ (1 ∷ 2 ∷ []) ∷ (1 ∷ 2 ∷ []) ∷ (2 ∷ []) ∷ (1 ∷ 2 ∷ []) ∷ (1 ∷ []) ∷ []
+    ∷ (1 ∷ 2 ∷ []) ∷ (1 ∷ 2 ∷ []) ∷ (2 ∷ []) ∷ (1 ∷ 2 ∷ []) ∷ (1 ∷ [])
+    ∷ (1 ∷ 2 ∷ []) ∷ (1 ∷ []) ∷ (1 ∷ []) ∷ (2 ∷ 3 ∷ []) ∷ []
 
 -- Twice document 001's bound of Theorem 2, (f + 1)(2n − 1 − 3f/2), for f crashes among n processes.
 abbrev pub twiceTheorem2 : (n f : ℕ) → ℕ

@@ -12,7 +12,7 @@ const NO_DIGIT: u8 = 64;
 // The value of the last digit, F.
 const LAST_DIGIT: u8 = 15;
 
-// The value of a byte as a digit, 0 to 15, or the mark of a byte that is none. (55 is A less 10.)
+// The value of a byte as a digit, 0 to 15, or the mark of a byte that is none. (55 is A less 10, and 87 is a less 10.)
 fn digit_value(c: u8) -> u8
     ensures { λ r. ⌜ r ≡ digitValue c ⌝ }
 {
@@ -27,6 +27,12 @@ fn digit_value(c: u8) -> u8
     }
     if c <= b'F' {
         return c - 55;
+    }
+    if c < b'a' {
+        return NO_DIGIT;
+    }
+    if c <= b'f' {
+        return c - 87;
     }
     NO_DIGIT
 }

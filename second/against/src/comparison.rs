@@ -1,10 +1,12 @@
 //! One call or one ticket, given to the implementation under test and to the
-//! second one.
+//! second one; and a ticket in other letters, given to the one under test.
 
 use std::fmt;
 
+use second::generate;
 use second::interface::{Agreement, REFUSED};
 use second::report::{process_line, result_length, write_line, LINE_LENGTH};
+use second::rng::Rng;
 use second::separate::run_separately;
 use second::ticket::MOST_PROCESSES;
 use second::{Simulator, Ticket};
@@ -25,6 +27,8 @@ pub struct Counts {
     pub settlings: u64,
     /// Runs by separate local parts.
     pub separate_runs: u64,
+    /// Tickets that the module under test ran and settled in other letters too.
+    pub in_other_letters: u64,
     /// Calls of start.
     pub starts: u64,
     /// Calls of speak.
@@ -38,13 +42,15 @@ impl fmt::Display for Counts {
         write!(
             f,
             "{} tickets ({} accepted, {} refused) in {} runs, {} settlings, \
-             {} runs by separate parts; {} starts, {} speeches, {} closings",
+             {} runs by separate parts; {} of these tickets in other letters too; \
+             {} starts, {} speeches, {} closings",
             self.accepted + self.refused,
             self.accepted,
             self.refused,
             self.runs,
             self.settlings,
             self.separate_runs,
+            self.in_other_letters,
             self.starts,
             self.speeches,
             self.closings,
@@ -97,31 +103,74 @@ fn in_words(answer: u64) -> String {
     }
 }
 
+/// What the answers of the implementation under test are compared with.
+const IN_SECOND: &str = "in the second implementation";
+const IN_LETTERS: &str = "in other letters";
+
 /// The first place where two equally long buffers differ.
-fn first_difference(under_test: &[u8], second: &[u8]) -> String {
-    let mut pairs = under_test.iter().zip(second);
+fn first_difference(under_test: &[u8], other: &[u8], in_other: &str) -> String {
+    let mut pairs = under_test.iter().zip(other);
     match pairs.position(|(a, b)| a != b) {
-        Some(at) => format!(
-            "byte {at} is {:02X}, in the second implementation {:02X}",
-            under_test[at], second[at]
-        ),
+        Some(at) => {
+            format!("byte {at} is {:02X}, {in_other} {:02X}", under_test[at], other[at])
+        }
         None => String::from("all bytes are equal"),
     }
 }
 
-/// The first result line of `written` bytes that differs, or else the first
-/// byte.
-fn differing_line(under_test: &[u8], second: &[u8], written: u64) -> String {
+/// The first result line that differs after two equal answers, or else the
+/// first byte.
+fn differing_line(under_test: &[u8], other: &[u8], written: u64, in_other: &str) -> String {
     let lines = under_test.chunks_exact(LINE_LENGTH);
-    let pairs = lines.zip(second.chunks_exact(LINE_LENGTH));
+    let pairs = lines.zip(other.chunks_exact(LINE_LENGTH));
     let count = written as usize / LINE_LENGTH;
     match pairs.take(count).find(|(line, other)| line != other) {
         Some((line, other)) => format!(
-            "a line is {}, in the second implementation {}",
+            "a line is {}, {in_other} {}",
             line.trim_ascii_end().escape_ascii(),
             other.trim_ascii_end().escape_ascii()
         ),
-        None => first_difference(under_test, second),
+        None => first_difference(under_test, other, in_other),
+    }
+}
+
+/// An answer about a ticket, and the output with its guard afterwards.
+type Ran = (u64, Vec<u8>);
+
+/// Nothing if two runs of a ticket are alike, and else how they differ.
+fn alike(under_test: &Ran, other: &Ran, in_other: &str) -> Result<(), String> {
+    if under_test == other {
+        return Ok(());
+    }
+    let ((answer, output), (other_answer, other_output)) = (under_test, other);
+    let bytes = if answer == other_answer && *answer < REFUSED {
+        differing_line(output, other_output, *answer, in_other)
+    } else {
+        first_difference(output, other_output, in_other)
+    };
+    let [answer, other_answer] = [answer, other_answer].map(|&answer| in_words(answer));
+    Err(format!("answers {answer}, {in_other} {other_answer}; {bytes}"))
+}
+
+/// One run into a buffer of `room` bytes with its guard, filled from `fill` on.
+fn run_into(module: &mut impl Agreement, text: &[u8], room: usize, fill: u8) -> Ran {
+    let mut output = filled(room, fill);
+    let answer = module.run(text, &mut output[..room]);
+    (answer, output)
+}
+
+/// The text in other letters, if it has any; equal texts give equal ones.
+fn relettered(text: &[u8]) -> Option<Vec<u8>> {
+    if !text.iter().any(u8::is_ascii_alphabetic) {
+        return None;
+    }
+    let sum = text.iter().fold(0u64, |sum, &byte| sum.wrapping_mul(31) + u64::from(byte));
+    let mut rng = Rng::new(sum);
+    loop {
+        let other = generate::in_other_letters(&mut rng, text);
+        if other != text {
+            return Some(other);
+        }
     }
 }
 
@@ -160,23 +209,11 @@ impl<M: Agreement> Comparison<M> {
     /// One run: the answer, and every byte of the output and behind it.
     fn run(&mut self, text: &[u8], room: usize) -> Result<(), String> {
         self.counts.runs += 1;
-        let mut output = filled(room, self.next_fill());
-        let mut expected = output.clone();
-        let answer = self.module.run(text, &mut output[..room]);
-        let second = Agreement::run(&mut self.second, text, &mut expected[..room]);
-        if answer == second && output == expected {
-            return Ok(());
-        }
-        let bytes = if answer == second && answer < REFUSED {
-            differing_line(&output, &expected, answer)
-        } else {
-            first_difference(&output, &expected)
-        };
-        Err(format!(
-            "running with {room} bytes of output answers {}, in the second implementation {}; {bytes}",
-            in_words(answer),
-            in_words(second),
-        ))
+        let fill = self.next_fill();
+        let under_test = run_into(&mut self.module, text, room, fill);
+        let second = run_into(&mut self.second, text, room, fill);
+        alike(&under_test, &second, IN_SECOND)
+            .map_err(|what| format!("running with {room} bytes of output {what}"))
     }
 
     /// Settling: any round that qualifies, or the same refusal.
@@ -195,6 +232,28 @@ impl<M: Agreement> Comparison<M> {
                 in_words(answer)
             )),
         }
+    }
+
+    /// The claim of Paper 1 about one ticket: in other letters, into an equal
+    /// buffer of `room` bytes, it is answered alike, leaves the same bytes, and
+    /// settles alike. A text that has no letters is not counted.
+    pub fn in_other_letters(&mut self, text: &[u8], room: usize) -> Result<(), Difference> {
+        let Some(other) = relettered(text) else {
+            return Ok(());
+        };
+        self.counts.in_other_letters += 1;
+        let differs = |what| Difference::Ticket { text: text.to_vec(), what };
+        let fill = self.next_fill();
+        let [ran, other_ran] =
+            [text, &other].map(|text| run_into(&mut self.module, text, room, fill));
+        alike(&ran, &other_ran, IN_LETTERS)
+            .map_err(|what| differs(format!("running with {room} bytes of output {what}")))?;
+        let [round, other_round] = [text, &other].map(|text| self.module.settle(text));
+        if round == other_round {
+            return Ok(());
+        }
+        let [round, other_round] = [round, other_round].map(in_words);
+        Err(differs(format!("settling answers {round}, {IN_LETTERS} {other_round}")))
     }
 
     /// Separate local parts against the lines of the module's own run.
@@ -238,7 +297,7 @@ impl<M: Agreement> Comparison<M> {
         let what = format!(
             "starting process {process} of {n}, t = {t}, value {value}, in {length} bytes \
              answers {answer}, in the second implementation {second}; {}",
-            first_difference(&state, &expected)
+            first_difference(&state, &expected, IN_SECOND)
         );
         Err(Difference::Call { what })
     }
@@ -257,7 +316,7 @@ impl<M: Agreement> Comparison<M> {
             "speaking in state {} with {room} bytes of output answers {answer}, \
              in the second implementation {second}; {}",
             hex(state),
-            first_difference(&output, &expected)
+            first_difference(&output, &expected, IN_SECOND)
         );
         Err(Difference::Call { what })
     }
@@ -277,7 +336,7 @@ impl<M: Agreement> Comparison<M> {
             "closing state {} on {} answers {answer}, in the second implementation {second}; {}",
             hex(state),
             hex(heard),
-            first_difference(&after, &expected)
+            first_difference(&after, &expected, IN_SECOND)
         );
         Err(Difference::Call { what })
     }
@@ -302,9 +361,20 @@ mod tests {
         WritesBehindTheResult,
         WritesOnRefusal,
         SettlesAfterTheRun,
+        RefusesMixedLetters,
+        WritesTheLettersOfTheTicket,
+        SettlesLaterForSmallLetters,
         StartsInRound0,
         SpeaksOnRefusal,
         DecidesOnDataAlone,
+    }
+
+    fn has_small_letters(text: &[u8]) -> bool {
+        text.iter().any(u8::is_ascii_lowercase)
+    }
+
+    fn has_mixed_letters(text: &[u8]) -> bool {
+        has_small_letters(text) && text.iter().any(u8::is_ascii_uppercase)
     }
 
     /// The second implementation with a mistake.
@@ -312,20 +382,33 @@ mod tests {
 
     impl Agreement for Mistaken {
         fn run(&mut self, ticket: &[u8], output: &mut [u8]) -> u64 {
+            if self.1 == Mistake::RefusesMixedLetters && has_mixed_letters(ticket) {
+                return 2 * REFUSED + 1;
+            }
             let answer = Agreement::run(&mut self.0, ticket, output);
             let length = answer as usize;
             match self.1 {
                 Mistake::CountsOneCommitMore if answer < REFUSED => output[length - 2] += 1,
                 Mistake::WritesBehindTheResult if length < output.len() => output[length] = b'\n',
                 Mistake::WritesOnRefusal if answer > REFUSED => output.fill(0),
+                Mistake::WritesTheLettersOfTheTicket
+                    if answer < REFUSED && has_small_letters(ticket) =>
+                {
+                    output[..length].make_ascii_lowercase()
+                }
                 _ => {}
             }
             answer
         }
 
         fn settle(&mut self, ticket: &[u8]) -> u64 {
-            let late = u64::from(self.1 == Mistake::SettlesAfterTheRun);
-            self.0.settle(ticket) + 2 * late
+            let late = match self.1 {
+                Mistake::SettlesAfterTheRun => 2,
+                // Both rounds of case 1 qualify.
+                Mistake::SettlesLaterForSmallLetters if has_small_letters(ticket) => 1,
+                _ => 0,
+            };
+            self.0.settle(ticket) + late
         }
 
         fn start(&mut self, process: u64, n: u64, t: u64, value: u32, state: &mut [u8]) -> u64 {
@@ -356,6 +439,9 @@ mod tests {
     fn compared(mistake: Mistake) -> Result<(), Difference> {
         let mut comparison = Comparison::new(Mistaken(Simulator::new(), mistake));
         comparison.ticket(&worked::case(1).text(), &rooms_around(4, 2))?;
+        for number in 1..=worked::CASES {
+            comparison.in_other_letters(&worked::case(number).text(), result_length(10))?;
+        }
         comparison.start(3, 4, 2, 30, 9)?;
         comparison.speak(&[2, 4, 2, 2, 0, 0, 0, 0, 10], 7)?;
         comparison.close(&[3, 4, 2, 1, 0, 0, 0, 0, 30], &[0x21, 1, 0, 0, 0, 10])
@@ -369,6 +455,9 @@ mod tests {
             Mistake::WritesBehindTheResult,
             Mistake::WritesOnRefusal,
             Mistake::SettlesAfterTheRun,
+            Mistake::RefusesMixedLetters,
+            Mistake::WritesTheLettersOfTheTicket,
+            Mistake::SettlesLaterForSmallLetters,
             Mistake::StartsInRound0,
             Mistake::SpeaksOnRefusal,
             Mistake::DecidesOnDataAlone,

@@ -3,13 +3,15 @@
 use second::interface::Agreement;
 use second::local::{SPEECH_LENGTH, STATE_LENGTH};
 use second::patterns::failure_patterns;
+use second::report::result_length;
 use second::ticket::MOST_PROCESSES;
 use second::Ticket;
 
 use crate::comparison::{rooms_around, Comparison, Difference};
 
 /// Every t and every accepted failure pattern of n ≤ 4 processes, each with
-/// every proposal from two values and with all proposals different.
+/// every proposal from two values and with all proposals different, and each in
+/// other letters too.
 pub fn tickets<M: Agreement>(comparison: &mut Comparison<M>) -> Result<(), Difference> {
     for n in 1..=4 {
         let rooms = rooms_around(n, 2);
@@ -17,8 +19,9 @@ pub fn tickets<M: Agreement>(comparison: &mut Comparison<M>) -> Result<(), Diffe
             for failures in failure_patterns(n, t) {
                 for proposals in proposals(n) {
                     let failures = failures.clone();
-                    let ticket = Ticket { n, t, proposals, failures };
-                    comparison.ticket(&ticket.text(), &rooms)?;
+                    let text = Ticket { n, t, proposals, failures }.text();
+                    comparison.ticket(&text, &rooms)?;
+                    comparison.in_other_letters(&text, result_length(n))?;
                 }
             }
         }
@@ -45,6 +48,7 @@ pub fn rooms<M: Agreement>(comparison: &mut Comparison<M>) -> Result<(), Differe
         let longest = *rooms_around(n, 40).last().expect("some rooms");
         let rooms: Vec<usize> = (0..=longest).collect();
         comparison.ticket(&ticket.text(), &rooms)?;
+        comparison.in_other_letters(&ticket.text(), longest)?;
     }
     Ok(())
 }

@@ -9,18 +9,23 @@ use second::ticket::MOST_PROCESSES;
 
 use crate::comparison::{Comparison, Difference};
 
-/// A ticket of up to 64 processes, damaged every other time, and with it some
-/// calls of start, speak and close.
+/// A ticket of up to 64 processes, damaged every other time, in any letters and
+/// in others; and with it some calls of start, speak and close.
 pub fn ticket_and_calls<M: Agreement>(
     comparison: &mut Comparison<M>,
     rng: &mut Rng,
 ) -> Result<(), Difference> {
     let ticket = generate::ticket(rng, MOST_PROCESSES);
-    let text = if rng.one_in(2) { generate::damaged(rng, &ticket) } else { ticket.text() };
+    let text = if rng.one_in(2) {
+        generate::damaged(rng, &ticket)
+    } else {
+        generate::written(rng, &ticket)
+    };
     let exact = result_length(ticket.n);
     let around = exact - 20 + rng.below(41);
     let any = rng.below(2 * result_length(MOST_PROCESSES));
     comparison.ticket(&text, &[exact, around, any])?;
+    comparison.in_other_letters(&text, rng.pick(&[exact, around]))?;
     calls(comparison, rng)
 }
 

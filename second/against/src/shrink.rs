@@ -3,12 +3,21 @@
 use second::{Crash, Failure, Ticket};
 
 /// Shrinks `text` step by step as long as `differs` holds of it. A ticket
-/// stays a ticket; another text is cut by lines, processes and bytes.
+/// stays a ticket, in capitals or else in small letters, if it differs so;
+/// another text is cut by lines, processes and bytes.
 pub fn shrink(text: &[u8], mut differs: impl FnMut(&[u8]) -> bool) -> Vec<u8> {
-    match Ticket::parse(text) {
-        Ok(ticket) => shrink_ticket(ticket, |ticket| differs(&ticket.text())).text(),
-        Err(_) => shrink_text(text.to_vec(), differs),
+    let writings: [fn(&Ticket) -> Vec<u8>; 2] = [Ticket::text, in_small_letters];
+    for written in writings {
+        let ticket = Ticket::parse(text).ok().filter(|ticket| differs(&written(ticket)));
+        if let Some(ticket) = ticket {
+            return written(&shrink_ticket(ticket, |ticket| differs(&written(ticket))));
+        }
     }
+    shrink_text(text.to_vec(), differs)
+}
+
+fn in_small_letters(ticket: &Ticket) -> Vec<u8> {
+    ticket.text().to_ascii_lowercase()
 }
 
 fn shrink_ticket(mut ticket: Ticket, mut differs: impl FnMut(&Ticket) -> bool) -> Ticket {
@@ -223,6 +232,22 @@ mod tests {
         let failure = "03010102000000000000000001";
         let smallest = format!("010201\n020100000000\n020200000000\n{failure}\n04\n");
         assert_eq!(String::from_utf8_lossy(&shrunk), smallest);
+    }
+
+    #[test]
+    fn a_ticket_in_small_letters_shrinks_in_small_letters() {
+        let text = b"010201\n0201AAAAAAAA\n0202bBbBbBbB\n03010102000000000000000001\n04\n";
+        let small =
+            |text: &[u8]| Ticket::parse(text).is_ok() && text.iter().any(u8::is_ascii_lowercase);
+        let shrunk = shrink(text, small);
+        assert_eq!(String::from_utf8_lossy(&shrunk), "010100\n0201aaaaaaaa\n04\n");
+    }
+
+    #[test]
+    fn a_text_that_differs_in_mixed_letters_alone_keeps_them() {
+        let both = |text: &[u8]| text.contains(&b'a') && text.contains(&b'A');
+        let shrunk = shrink(b"010100\n020100aA0000\n04\n", both);
+        assert_eq!(String::from_utf8_lossy(&shrunk), "aA");
     }
 
     #[test]

@@ -57,6 +57,15 @@ impl Object {
         }
     }
 
+    /// The bytes of a text: a string, or NAME_hex in hexadecimal digits.
+    pub fn written(&self, name: &str) -> Option<Vec<u8>> {
+        let in_digits = format!("{name}_hex");
+        if self.has(&in_digits) {
+            return Some(self.bytes(&in_digits));
+        }
+        self.has(name).then(|| self.text(name).as_bytes().to_vec())
+    }
+
     /// The bytes of a string of hexadecimal digits.
     pub fn bytes(&self, name: &str) -> Vec<u8> {
         let digits = self.text(name);

@@ -68,6 +68,7 @@ fn tickets() -> Vec<(&'static str, Vec<u8>)> {
     vec![
         ("small: n 4, case 1", worked::case(1).text()),
         ("typical: n 64, 2 crashes", typical.text()),
+        ("the same in small letters", typical.text().to_ascii_lowercase()),
         ("worst: n 64, t 63, 63 crashes", worst.text()),
         ("damaged: refused at line 1", early),
         ("damaged: refused at line 129", late),

@@ -69,7 +69,11 @@ fn compare(
 fn difference_on(text: &[u8]) -> Option<String> {
     let n = Ticket::parse(text).map_or(1, |ticket| ticket.n);
     let rooms = [vec![0, 2000], rooms_around(n, 1)].concat();
-    match Comparison::new(Proved).ticket(text, &rooms) {
+    let mut comparison = Comparison::new(Proved);
+    let compared = comparison
+        .ticket(text, &rooms)
+        .and_then(|()| rooms.iter().try_for_each(|&room| comparison.in_other_letters(text, room)));
+    match compared {
         Err(Difference::Ticket { what, .. } | Difference::Call { what }) => Some(what),
         Ok(()) => None,
     }

@@ -1,0 +1,116 @@
+-- Texts that differ in the case of letters alone are answered alike, since they are read alike; and what is written has no small letter. Assumes nothing.
+use mathlib.Core.List.{List}
+use mathlib.Core.Path.{_≡_, refl, sym, ap, _∙_}
+use Prim.Native.Nat.{ℕ, _<_}
+use native.Mathlib.Omega.{arith}
+use lib.ListN.{length, take}
+use lib.Seq.{take-append-seam}
+use Rattle.consensus.specs.Instance.{Instance}
+use Rattle.formats.specs.Capitals.{EqualUpToCase, InCapitals}
+use Rattle.formats.specs.Reading.{Reading, accepted, refused}
+use Rattle.formats.specs.Ticket.{readTicket}
+use Rattle.formats.specs.ResultLine.{resultText, resultSize}
+use Rattle.formats.specs.Running.{running, bufferAfter, written, programWrites}
+use Rattle.formats.specs.Settle.{Settles}
+use Rattle.formats.specs.Code.{refusalCode, runCode, settleCode, SettlesAs}
+use Rattle.formats.proofs.Capitals.{read-capitals, read-alike}
+use Rattle.formats.proofs.InCapitals.{refusal-in-capitals}
+use Rattle.formats.proofs.WellFormed.{accepted-well-formed}
+use Rattle.formats.proofs.ResultLength.{length-text}
+use Rattle.formats.proofs.RefusalRange.{RefusedBy, lastRefused, ticket-refused}
+use Rattle.formats.proofs.CodesApart.{codes-apart}
+use Rattle.running.specs.Answer.{answerOf}
+use Rattle.demands.specs.Written.{Wrote}
+use Rattle.demands.specs.Witnesses.{RunMet}
+use Rattle.demands.specs.LettersClaim.{RunAlike, SettledAlike, LettersClaim}
+use Rattle.demands.proofs.Answered.{RunCase, fits, short, unread, run-case}
+use Rattle.demands.proofs.ResultInCapitals.{text-in-capitals}
+
+-- A refused text has one answer of settling.
+refusal-told : (text : List ℕ) (code : ℕ) → SettlesAs text code → (number line : ℕ) → readTicket text ≡ refused number line → code ≡ refusalCode number line
+unfolding Settles settleCode
+refusal-told text code s number line read =
+    let answered : s .answer ≡ refused number line = rw read at (s .settles) in
+    s .coded ∙ ap settleCode answered
+
+-- The number of a ticket's refusal is a byte.
+refusal-byte : (text : List ℕ) (number line : ℕ) → readTicket text ≡ refused number line → number < 256
+unfolding RefusedBy
+refusal-byte text number line read =
+    let range : RefusedBy lastRefused (readTicket text) = ticket-refused text in
+    let known : RefusedBy {A = Instance} lastRefused (refused number line) = rw read at range in
+    omega (arith, known .1)
+
+module _ (a b : List ℕ) (same : EqualUpToCase a b) where
+  alike : readTicket a ≡ readTicket b
+  alike = read-alike a b same
+
+  running-alike : (room : ℕ) → running a room ≡ running b room
+  unfolding running
+  running-alike room = rw alike refl
+
+  -- Whatever is made of what running answers.
+  made-alike : {A : Type 0} (made : Reading (List ℕ) → A) (room : ℕ) (u v : A) → u ≡ made (running a room) → v ≡ made (running b room) → u ≡ v
+  made-alike made room u v e g = e ∙ ap made (running-alike room) ∙ sym g
+
+  run-alike : RunAlike a b
+  unfolding programWrites
+  run-alike =
+      record {
+        ran = λ before out out′ answer answer′ r s.
+            (made-alike answerOf _ _ _ (r .answered) (s .answered), made-alike (λ m. bufferAfter m before) _ _ _ (r .buffer) (s .buffer));
+        called = λ before out out′ code code′ r s.
+            (made-alike runCode _ _ _ (r .answered) (s .answered), made-alike (λ m. bufferAfter m before) _ _ _ (r .buffer) (s .buffer));
+        program = ap written (running-alike (resultSize 64));
+      }
+
+  -- What running one text meets, running the other does.
+  pub run-met-alike : (size : ℕ) → RunMet a size → RunMet b size
+  run-met-alike size met =
+      let e = running-alike (length (met .before)) in
+      record {
+        before = met .before;
+        after = met .after;
+        ran = record { answered = rw e at (met .ran .answered); buffer = rw e at (met .ran .buffer) };
+        called = record {
+          call = record { answered = rw e at (met .called .call .answered); buffer = rw e at (met .called .call .buffer) };
+          small = met .called .small;
+        };
+      }
+
+  settled-alike : SettledAlike a b
+  settled-alike =
+      record {
+        settled = λ answer right. rw alike at right;
+        called = λ code s. record { answer = s .answer; settles = rw alike at (s .settles); coded = s .coded };
+        refused = λ code code′ s s′ large.
+            let read = codes-apart .settlingRefused a code s large in
+            refusal-told a code s _ _ read ∙ sym (refusal-told b code′ s′ _ _ (sym alike ∙ read));
+      }
+
+result-in-capitals : (text : List ℕ) (x : Instance) (out : List ℕ) → Wrote text x out → InCapitals (take (resultSize (x .processes)) out)
+result-in-capitals text x out wrote =
+    let size = length-text x (accepted-well-formed text x (wrote .read)) in
+    let front : take (resultSize (x .processes)) out ≡ resultText x =
+    rw (← size, wrote .front) (take-append-seam (resultText x) (wrote .behind)) in
+    rw front (text-in-capitals text x (wrote .read))
+
+written-in-capitals : (text : List ℕ) → InCapitals (programWrites text)
+unfolding programWrites written
+written-in-capitals text = by-case (running text (resultSize 64)) (run-case text (resultSize 64))
+  where
+    by-case : (a : Reading (List ℕ)) → RunCase text (resultSize 64) a → InCapitals (written a)
+    by-case (accepted r) (fits x read room) = text-in-capitals text x read
+    by-case (refused number line) (short x read room) = refusal-in-capitals 9 0 (omega arith)
+    by-case (refused number line) (unread _ _ read) = refusal-in-capitals number line (refusal-byte text number line read)
+
+pub letters-claim : LettersClaim
+letters-claim =
+    record {
+      capitals = read-capitals;
+      read = read-alike;
+      run = run-alike;
+      settle = settled-alike;
+      result = result-in-capitals;
+      written = written-in-capitals;
+    }

@@ -1,0 +1,42 @@
+-- The case of letters (document 02, Paper 1): "Digits of either case are accepted, mixed too; output keeps capitals. Two tickets that differ in the case of
+-- letters alone, run into equal buffers, get equal output bytes." It is claimed of every text, accepted or refused, of every buffer, and of what the calls
+-- answer and leave.
+use mathlib.Core.List.{List, map}
+use mathlib.Core.Path.{_≡_}
+use Prim.Native.Nat.{ℕ, _≤_}
+use lib.ListN.{take}
+use Rattle.consensus.specs.Instance.{Instance}
+use Rattle.formats.specs.Capitals.{capital, EqualUpToCase, InCapitals}
+use Rattle.formats.specs.Reading.{Reading}
+use Rattle.formats.specs.Ticket.{readTicket}
+use Rattle.formats.specs.ResultLine.{resultSize}
+use Rattle.formats.specs.Running.{programWrites}
+use Rattle.formats.specs.Settle.{Settles}
+use Rattle.formats.specs.Code.{refusalsFrom, RunCall, SettlesAs}
+use Rattle.running.specs.Answer.{Ran}
+use Rattle.running.specs.declared.RunAnswer.{RunAnswer}
+use Rattle.demands.specs.Written.{Wrote}
+
+-- Of running: equal buffers get equal answers, a refusal's number and line included, and are left with equal bytes; by the library's own contract, by the C
+-- call's, and in what the program writes.
+pub record RunAlike (a b : List ℕ) : Type 0 where
+  pub ran : (before out out′ : List ℕ) (answer answer′ : RunAnswer) → Ran a before out answer → Ran b before out′ answer′ → (answer ≡ answer′) × (out ≡ out′)
+  pub called : (before out out′ : List ℕ) (code code′ : ℕ) → RunCall a before out code → RunCall b before out′ code′ → (code ≡ code′) × (out ≡ out′)
+  pub program : programWrites a ≡ programWrites b
+
+-- Of settling: what is right for the one is right for the other, as long as document 01 leaves the round free; a refusal is the same.
+pub record SettledAlike (a b : List ℕ) : Type 0 where
+  pub settled : (answer : Reading ℕ) → Settles (readTicket a) answer → Settles (readTicket b) answer
+  pub called : (code : ℕ) → SettlesAs a code → SettlesAs b code
+  pub refused : (code code′ : ℕ) → SettlesAs a code → SettlesAs b code′ → refusalsFrom ≤ code → code ≡ code′
+
+pub record LettersClaim : Type 0 where
+  -- every text is read as its capitals are: one instance, or one refusal with its number and its line
+  pub capitals : (text : List ℕ) → readTicket (map capital text) ≡ readTicket text
+  -- and so are two texts that differ in the case of letters alone
+  pub read : (a b : List ℕ) → EqualUpToCase a b → readTicket a ≡ readTicket b
+  pub run : (a b : List ℕ) → EqualUpToCase a b → RunAlike a b
+  pub settle : (a b : List ℕ) → EqualUpToCase a b → SettledAlike a b
+  -- a result that stands in a buffer has no small letter, nor has anything that the program writes
+  pub result : (text : List ℕ) (x : Instance) (out : List ℕ) → Wrote text x out → InCapitals (take (resultSize (x .processes)) out)
+  pub written : (text : List ℕ) → InCapitals (programWrites text)

@@ -1,0 +1,88 @@
+-- What is answered on texts in two letterings, computed. Assumes nothing.
+use mathlib.Core.List.{List, [], _∷_}
+use mathlib.Core.Path.{_≡_, refl, ap}
+use Prim.Native.Nat.{ℕ}
+use native.Mathlib.Omega.{arith}
+use lib.Count.{onesIn}
+use lib.ListN.{replicate, getD}
+use Rattle.general.specs.Bits.{member, ones64}
+use Rattle.general.specs.BigEndian.{number, numberFrom, bytesOf}
+use Rattle.general.specs.Indexed.{mapFrom}
+use Rattle.general.specs.Text.{ascii}
+use Rattle.consensus.specs.Instance.{pointFrom, faultOf, withinLimits}
+use Rattle.coordinator.specs.Message.{arriving}
+use Rattle.coordinator.specs.Transition.{sends, receives}
+use Rattle.coordinator.specs.Delivery.{amongFirst, reachAt, reachIn, reach}
+use Rattle.consensus.specs.State.{stateOf, crashesIn}
+use Rattle.coordinator.specs.Round.{sentBy, received, afterOutcome, after, statesAfter}
+use Rattle.coordinator.specs.Undecided.{isUndecided, anyUndecided}
+use Rattle.coordinator.specs.Run.{initial, withRound, runTo, runOf, crashesOf}
+use Rattle.formats.specs.Digit.{digitValue, isDigit}
+use Rattle.formats.specs.Line.{scan, closed, unclosed, linesFrom, linesOf}
+use Rattle.formats.specs.FailureLine.{placesCrash, allBetween, suitsStep}
+use Rattle.formats.specs.Says.{isKind, headerSays, afterProposal, proposalSays, failureLine, crashSays, failureSays, lineSays}
+use Rattle.formats.specs.Accept.{unproposed, withProposal, withCrash, begin, store, accept}
+use Rattle.formats.specs.HexText.{digitOf, hexDigits, hexLine}
+use Rattle.coordinator.specs.Settling.{valuesHeld, allAre, oneValue, qualifies}
+use Rattle.coordinator.specs.Count.{dataAt, commitsAt, countIn, speaks, dataIn, commitsIn}
+use Rattle.consensus.specs.CrashCount.{isIdle, countsAsCrash, crashCount}
+use Rattle.formats.specs.Reading.{Reading, accepted, refused, proceed, readFrom}
+use Rattle.formats.specs.Ticket.{atEnd, readTicket}
+use Rattle.formats.specs.ResultLine.{endBytes, processLine, lastLine, joined, resultLines, resultText, resultSize}
+use Rattle.formats.specs.Running.{resultIn, running, bufferAfter}
+use Rattle.formats.specs.Settle.{Settles}
+use Rattle.formats.specs.Code.{refusalCode, runCode, settleCode, SettlesAs}
+use Rattle.formats.specs.Capitals.{capital, EqualUpToCase, InCapitals}
+use Rattle.formats.specs.LetteringCases.{TwoLetterings, LetteringCases}
+use Rattle.formats.specs.LetterRuns.{case1Mixed}
+use Rattle.formats.specs.Table.{textOf, case1}
+
+-- Of case 1 in mixed letters byte 18, counted from 0, is a.
+small-letter : InCapitals (textOf (case1Mixed .ticket)) → ⊥
+unfolding InCapitals capital textOf ascii
+small-letter e =
+    let same : _≡_ {A = ℕ} 65 97 = ap (λ (l : List ℕ). getD l 18 0) e in
+    omega arith
+
+-- Two texts that differ at byte i.
+different : (a b : List ℕ) (i : ℕ) → (getD a i 0 ≡ getD b i 0 → ⊥) → a ≡ b → ⊥
+different a b i other e = other (ap (λ (l : List ℕ). getD l i 0) e)
+
+-- Settling answers so if that is right.
+settles-so : (text : List ℕ) (answer : Reading ℕ) → Settles (readTicket text) answer → SettlesAs text (settleCode answer)
+settles-so text answer right = record { answer = answer; settles = right; coded = refl }
+
+-- A buffer of 100 bytes.
+abbrev buffer : List ℕ
+buffer = replicate 100 165
+
+accepted-texts : TwoLetterings (textOf (case1 .ticket)) (textOf (case1Mixed .ticket)) 85 1
+unfolding EqualUpToCase capital Settles settleCode bufferAfter valuesHeld allAre oneValue qualifies runCode textOf ascii onesIn member ones64 number numberFrom bytesOf mapFrom pointFrom faultOf withinLimits arriving sends receives amongFirst reachAt reachIn reach stateOf crashesIn sentBy received afterOutcome after statesAfter isUndecided anyUndecided dataAt commitsAt countIn speaks dataIn commitsIn isIdle countsAsCrash crashCount initial withRound runTo runOf crashesOf digitValue isDigit scan closed unclosed linesFrom linesOf proceed readFrom isKind headerSays afterProposal proposalSays failureLine placesCrash allBetween suitsStep crashSays failureSays lineSays unproposed withProposal withCrash begin store accept atEnd readTicket digitOf hexDigits hexLine endBytes processLine lastLine joined resultLines resultText resultSize resultIn running
+accepted-texts =
+    record {
+      differ = different (textOf (case1 .ticket)) (textOf (case1Mixed .ticket)) 18 (λ e. omega arith);
+      same = refl;
+      before = buffer;
+      after = bufferAfter (running (textOf (case1 .ticket)) 100) buffer;
+      first = record { answered = refl; buffer = refl };
+      second = record { answered = refl; buffer = refl };
+      firstSettles = settles-so (textOf (case1 .ticket)) (accepted 1) refl;
+      secondSettles = settles-so (textOf (case1Mixed .ticket)) (accepted 1) refl;
+    }
+
+refused-texts : TwoLetterings (textOf ("01040G" ∷ [])) (textOf ("01040g" ∷ [])) (refusalCode 2 1) (refusalCode 2 1)
+unfolding EqualUpToCase capital Settles settleCode bufferAfter runCode running resultIn textOf ascii digitValue isDigit scan closed unclosed linesFrom linesOf readFrom readTicket
+refused-texts =
+    record {
+      differ = different (textOf ("01040G" ∷ [])) (textOf ("01040g" ∷ [])) 5 (λ e. omega arith);
+      same = refl;
+      before = buffer;
+      after = buffer;
+      first = record { answered = refl; buffer = refl };
+      second = record { answered = refl; buffer = refl };
+      firstSettles = settles-so (textOf ("01040G" ∷ [])) (refused 2 1) refl;
+      secondSettles = settles-so (textOf ("01040g" ∷ [])) (refused 2 1) refl;
+    }
+
+pub lettering-cases : LetteringCases
+lettering-cases = record { acceptedTexts = accepted-texts; refusedTexts = refused-texts; notInCapitals = small-letter }

@@ -1,0 +1,31 @@
+-- Runs of tickets with small letters (document 02, Paper 1: "Digits of either case are accepted, mixed too; output keeps capitals"), with what the program
+-- writes for them by the second implementation.
+use mathlib.Core.List.{List, [], _∷_}
+use Rattle.formats.specs.Table.{Case, caseOf, case1}
+
+-- Case 1 in mixed letters.
+abbrev pub case1Mixed : Case
+case1Mixed =
+    caseOf 18 ("010402" ∷ "02010000000a" ∷ "020200000014" ∷ "02030000001E" ∷ "020400000028" ∷ "03010102000000000000000001" ∷ "04" ∷ [])
+    (case1 .output)
+
+-- One process whose value has every letter, in each byte one of either case; and the same with the cases changed.
+abbrev pub smallFirst : Case
+smallFirst =
+    caseOf 19 ("010100" ∷ "0201aBcDeF09" ∷ "04" ∷ [])
+    ("11010101ABCDEF09" ∷ "1201000100000000" ∷ [])
+
+abbrev pub smallLast : Case
+smallLast =
+    caseOf 20 ("010100" ∷ "0201AbCdEf90" ∷ "04" ∷ [])
+    ("11010101ABCDEF90" ∷ "1201000100000000" ∷ [])
+
+-- A ticket as the planner's export writes it (examples/export.ticket): the data of process 1 reaches processes 2 and 4, two commits of process 2 leave.
+abbrev pub export : Case
+export =
+    caseOf 21 ("010502" ∷ "020103e801f4" ∷ "020204b0028a" ∷ "0203038401c2" ∷ "020405dc02ee" ∷ "0205044c0226"
+    ∷ "03010101000000000000000a00" ∷ "03020202000000000000000002" ∷ "04" ∷ [])
+    ("1101020100000000" ∷ "1102020200000000" ∷ "1103010303E801F4" ∷ "1104010203E801F4" ∷ "1105010203E801F4" ∷ "1203020300070004" ∷ [])
+
+unfoldable pub letterRuns : List Case
+letterRuns = case1Mixed ∷ smallFirst ∷ smallLast ∷ export ∷ []

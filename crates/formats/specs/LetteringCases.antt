@@ -1,0 +1,29 @@
+-- Texts in two letterings (document 02, Paper 1): the premises of its claim (`LettersClaim`, demands/specs) can be met, by two texts that are accepted and by
+-- two that are refused.
+use mathlib.Core.List.{List, [], _∷_}
+use mathlib.Core.Path.{_≡_}
+use Prim.Native.Nat.{ℕ}
+use Rattle.formats.specs.Capitals.{EqualUpToCase, InCapitals}
+use Rattle.formats.specs.Code.{refusalCode, RunCall, SettlesAs}
+use Rattle.formats.specs.Table.{textOf, case1}
+use Rattle.formats.specs.LetterRuns.{case1Mixed}
+
+-- Two different texts, equal up to the case of letters. Run into equal buffers both answer `code` and leave the same bytes; settling may answer `settled` of
+-- both.
+pub record TwoLetterings (a b : List ℕ) (code settled : ℕ) : Type 0 where
+  pub differ : a ≡ b → ⊥
+  pub same : EqualUpToCase a b
+  pub before : List ℕ
+  pub after : List ℕ
+  pub first : RunCall a before after code
+  pub second : RunCall b before after code
+  pub firstSettles : SettlesAs a settled
+  pub secondSettles : SettlesAs b settled
+
+pub record LetteringCases : Type 0 where
+  -- case 1 and its text in mixed letters: the 85 bytes of its result, settled in round 1
+  pub acceptedTexts : TwoLetterings (textOf (case1 .ticket)) (textOf (case1Mixed .ticket)) 85 1
+  -- G and g, which are no digits: refusal 2 at line 1
+  pub refusedTexts : TwoLetterings (textOf ("01040G" ∷ [])) (textOf ("01040g" ∷ [])) (refusalCode 2 1) (refusalCode 2 1)
+  -- a small letter is seen
+  pub notInCapitals : InCapitals (textOf (case1Mixed .ticket)) → ⊥
