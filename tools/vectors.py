@@ -1,7 +1,8 @@
 """The vectors of tests/vectors/: a file for the base version and one for each paper, with a JSON object on each line.
 
 A text stands in a field by itself or, in a field whose name ends in _hex, in hexadecimal digits; base.jsonl has its tickets in
-digits under the plain name.
+digits under the plain name. Of a paper's `result`, that is what is written when no later paper has landed;
+`result_when_all_have_landed` is for later.
 """
 
 from __future__ import annotations

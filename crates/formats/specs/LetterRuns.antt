@@ -9,7 +9,7 @@ case1Mixed =
     caseOf 18 ("010402" ∷ "02010000000a" ∷ "020200000014" ∷ "02030000001E" ∷ "020400000028" ∷ "03010102000000000000000001" ∷ "04" ∷ [])
     (case1 .output)
 
--- One process whose value has every letter, in each byte one of either case; and the same with the cases changed.
+-- One process whose value has every letter, two of different cases in each byte that has letters; and the same with the cases changed.
 abbrev pub smallFirst : Case
 smallFirst =
     caseOf 19 ("010100" ∷ "0201aBcDeF09" ∷ "04" ∷ [])
@@ -17,8 +17,8 @@ smallFirst =
 
 abbrev pub smallLast : Case
 smallLast =
-    caseOf 20 ("010100" ∷ "0201AbCdEf90" ∷ "04" ∷ [])
-    ("11010101ABCDEF90" ∷ "1201000100000000" ∷ [])
+    caseOf 20 ("010100" ∷ "0201AbCdEf09" ∷ "04" ∷ [])
+    ("11010101ABCDEF09" ∷ "1201000100000000" ∷ [])
 
 -- A ticket as the planner's export writes it (examples/export.ticket): the data of process 1 reaches processes 2 and 4, two commits of process 2 leave.
 abbrev pub export : Case
