@@ -119,7 +119,9 @@ wrong-worlds:
 compare: $(LIBRARY)
 	$(SECOND) run --quiet --release -p against --bin compare -- --seed $(SEED) --count $(COUNT)
 
+# The comparison's own tests show first that it sees mistakes.
 compare-short: $(LIBRARY)
+	$(SECOND) test --quiet -p against --lib
 	$(SECOND) run --quiet --release -p against --bin compare -- --short
 
 bench: $(LIBRARY)

@@ -1,8 +1,8 @@
 """The vectors of tests/vectors/: a file for the base version and one for each paper, with a JSON object on each line.
 
 A text stands in a field by itself or, in a field whose name ends in _hex, in hexadecimal digits; base.jsonl has its tickets in
-digits under the plain name. Of a paper's `result`, that is what is written when no later paper has landed;
-`result_when_all_have_landed` is for later.
+digits under the plain name. A `result` is what is written now. Those of paper-03.jsonl were given for a program with Paper 2, which
+has not landed: the two bytes that it adds to each line 11 are struck out there. `result_when_all_have_landed` is for later.
 """
 
 from __future__ import annotations
@@ -13,8 +13,16 @@ from dataclasses import dataclass
 
 FOLDER = os.path.join(os.path.dirname(os.path.dirname(os.path.abspath(__file__))), "tests", "vectors")
 BASE, DESK = "base", "desk"
-PAPERS = ["paper-01"]  # whose vectors are of running a ticket
+PAPERS = ["paper-01", "paper-03"]  # whose vectors are of running a ticket
 TICKET_FILES = [BASE, *PAPERS]
+
+
+@dataclass
+class Entry:
+    """An entry of Paper 3's table."""
+
+    byte: int
+    digit_value: int | None  # none: the mark of a byte that is no digit
 
 
 @dataclass
@@ -28,6 +36,7 @@ class Ticket:
     result: str
     room: int | None  # of the output; ample if it is not said
     settling_rounds: list | None  # that qualify, where the file says it
+    entry: Entry | None  # of the byte that stands in the ticket for two digits, in the file of Paper 3
 
     @property
     def place(self):
@@ -70,6 +79,7 @@ def tickets(*files):
             vector["result"],
             vector.get("room"),
             vector.get("settling_rounds_that_qualify"),
+            Entry(vector["byte"], vector["digit_value"]) if "byte" in vector else None,
         )
         for file in files or TICKET_FILES
         for number, vector in objects(file)

@@ -1,12 +1,13 @@
 //! A second implementation of document 01's base version and of document 02's
-//! Paper 1, written from the papers alone and in a shape of its own: a run is
-//! simulated message by message, with a mailbox for each process and a switch
+//! Papers 1 and 3, written from the papers alone and in a shape of its own: a run
+//! is simulated message by message, with a mailbox for each process and a switch
 //! in between.
 //!
 //! | Paper | Here |
 //! |---|---|
 //! | "The ticket", refusals 1 to 8 | [`lines`], [`ticket`] |
 //! | 02, Paper 1: letters of either case | [`lines`] |
+//! | 02, Paper 3: what each byte is as a digit, by a rule | [`lines`] |
 //! | "A round" | [`process`], [`switch`], [`simulation`] |
 //! | "The result", refusal 9, settling | [`Simulator`], [`report`] |
 //! | "The desk part", refusals 9 to 12 | [`local`] |

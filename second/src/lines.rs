@@ -1,4 +1,4 @@
-//! The lines of a ticket (01, "The ticket", first paragraph; 02, Paper 1).
+//! The lines of a ticket (01, "The ticket", first paragraph; 02, Papers 1 and 3).
 
 use crate::refusal::{Reason, Refusal};
 
@@ -38,7 +38,8 @@ impl Line<'_> {
     }
 }
 
-/// What a digit stands for; letters are of either case (02, Paper 1).
+/// What a digit stands for; letters are of either case (02, Paper 1). Paper 3 has
+/// these values in a table; here they stay a rule, by which a table is checked.
 fn digit_value(digit: u8) -> u8 {
     match digit {
         b'0'..=b'9' => digit - b'0',
@@ -94,7 +95,15 @@ impl<'a> Iterator for Lines<'a> {
 #[cfg(test)]
 mod tests {
     use super::*;
-    use std::collections::HashMap;
+
+    /// The 22 digits of Paper 1, each with its value, as Paper 3's table has them.
+    #[rustfmt::skip]
+    const DIGITS: [(u8, u8); 22] = [
+        (b'0', 0), (b'1', 1), (b'2', 2), (b'3', 3), (b'4', 4),
+        (b'5', 5), (b'6', 6), (b'7', 7), (b'8', 8), (b'9', 9),
+        (b'A', 10), (b'B', 11), (b'C', 12), (b'D', 13), (b'E', 14), (b'F', 15),
+        (b'a', 10), (b'b', 11), (b'c', 12), (b'd', 13), (b'e', 14), (b'f', 15),
+    ];
 
     #[test]
     fn digits_make_bytes_most_significant_first() {
@@ -113,11 +122,8 @@ mod tests {
 
     #[test]
     fn these_22_bytes_are_digits_and_no_other() {
-        let digits = b"0123456789ABCDEFabcdef";
-        let values = (0..16).chain(10..16);
-        let value_of: HashMap<u8, u8> = digits.iter().copied().zip(values).collect();
         for byte in 0..=u8::MAX {
-            let value = value_of.get(&byte);
+            let value = DIGITS.iter().find(|(digit, _)| *digit == byte).map(|(_, value)| value);
             for (text, weight) in [([byte, b'0', b'\n'], 16), ([b'0', byte, b'\n'], 1)] {
                 let line = Lines::of(&text).next().unwrap().ok();
                 let kind = line.map(|line| line.kind());

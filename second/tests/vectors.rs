@@ -7,6 +7,7 @@ use std::path::Path;
 
 use json::Object;
 use second::interface::Agreement;
+use second::lines::Lines;
 use second::Simulator;
 
 fn vectors(name: &str) -> Vec<Object> {
@@ -64,6 +65,36 @@ fn tickets_of_paper_1() {
         assert_eq!(rounds[0], rounds[1], "{about}");
     }
     assert!(vectors.len() >= 300 && in_other_letters >= 140);
+}
+
+/// The byte that two digits make; none if they are not both digits.
+fn byte_of(digits: [u8; 2]) -> Option<u64> {
+    let text = [digits[0], digits[1], b'\n'];
+    let line = Lines::of(&text).next()?.ok()?;
+    Some(line.kind().into())
+}
+
+#[test]
+fn entries_of_paper_3() {
+    let mut simulator = Simulator::new();
+    let vectors = vectors("paper-03.jsonl");
+    for (byte, vector) in (0..=u8::MAX).zip(&vectors) {
+        let about = vector.text("about");
+        assert_eq!(vector.number("byte"), u64::from(byte), "{about}");
+        let value = vector.number_if_any("digit_value");
+        assert_eq!(byte_of([byte, b'0']), value.map(|value| 16 * value), "{about}");
+        assert_eq!(byte_of([b'0', byte]), value, "{about}");
+
+        let ticket = vector.written("ticket").expect(about);
+        let with_the_byte = [&b"010100\n0201000000"[..], &[byte, byte], b"\n04\n"].concat();
+        assert_eq!(ticket, with_the_byte, "{about}");
+        assert_eq!(simulator.print(&ticket, room(vector)), vector.text("result"), "{about}");
+        match simulator.settling_rounds(&ticket) {
+            Ok(rounds) => assert_eq!((rounds, value.is_some()), (vec![1], true), "{about}"),
+            Err(refusal) => assert_eq!(format!("{refusal}\n"), vector.text("result"), "{about}"),
+        }
+    }
+    assert_eq!(vectors.len(), 256);
 }
 
 #[test]

@@ -1,52 +1,23 @@
--- Laws of a digit's value, one for each range of bytes, of what a digit is, and of the digit of a value. Assumes nothing.
+-- Laws of a digit's value: at each entry of the table, of what a digit is, and of the digit of a value. Assumes nothing.
+use mathlib.Core.List.{List}
 use mathlib.Core.Path.{_≡_, refl}
-use mathlib.Core.Bool.{true, false, _&&_}
-use Prim.Native.Nat.{ℕ, _+_, _-_, _≤_, _<_}
+use mathlib.Core.Bool.{true, false, cond}
+use Prim.Native.Nat.{ℕ, _≤_, _<_}
 use native.Mathlib.Omega.{arith}
-use borrow.Author.Tests.{le-leb, lt-leb, lt-ltb, le-ltb}
-use lib.Dec.{leb}
-use Rattle.formats.specs.Digit.{digitValue, isDigit, noDigit}
+use borrow.Author.Tests.{le-leb, lt-leb, eqb-true}
+use lib.Dec.{eqb}
+use lib.ListN.{getD}
+use Rattle.general.specs.Indexed.{mapFrom}
+use Rattle.general.specs.Table.{tabulate}
+use Rattle.general.proofs.Tests.{by-order}
+use Rattle.general.proofs.Table.{entry-at, entries-same}
+use Rattle.formats.specs.Digit.{noDigit, digitValue, isDigit, digitTable}
 use Rattle.formats.specs.HexText.{digitOf}
 
--- A test of a range, by where a number stands: within it, below it, above it.
-module _ (first last c : ℕ) where
-  within : first ≤ c → c ≤ last → (leb first c && leb c last) ≡ true
-  within h l = rw (le-leb first c h, le-leb c last l) refl
-
-  under : c < first → (leb first c && leb c last) ≡ false
-  under h = rw (lt-leb first c h) refl
-
-  over : first ≤ c → last < c → (leb first c && leb c last) ≡ false
-  over h l = rw (le-leb first c h, lt-leb c last l) refl
-
-module _ (c : ℕ) where
-  pub value-below : c < 48 → digitValue c ≡ noDigit
-  unfolding digitValue
-  value-below h = rw (under 48 57 c h, under 65 70 c (omega arith), under 97 102 c (omega arith)) refl
-
-  pub value-figure : 48 ≤ c → c ≤ 57 → digitValue c ≡ c - 48
-  unfolding digitValue
-  value-figure h l = rw (within 48 57 c h l) refl
-
-  pub value-between : 57 < c → c < 65 → digitValue c ≡ noDigit
-  unfolding digitValue
-  value-between h l = rw (over 48 57 c (omega arith) h, under 65 70 c l, under 97 102 c (omega arith)) refl
-
-  pub value-capital : 65 ≤ c → c ≤ 70 → digitValue c ≡ c - 55
-  unfolding digitValue
-  value-capital h l = rw (over 48 57 c (omega arith) (omega arith), within 65 70 c h l) refl
-
-  pub value-between-cases : 70 < c → c < 97 → digitValue c ≡ noDigit
-  unfolding digitValue
-  value-between-cases h l = rw (over 48 57 c (omega arith) (omega arith), over 65 70 c (omega arith) h, under 97 102 c l) refl
-
-  pub value-small : 97 ≤ c → c ≤ 102 → digitValue c ≡ c - 87
-  unfolding digitValue
-  value-small h l = rw (over 48 57 c (omega arith) (omega arith), over 65 70 c (omega arith) (omega arith), within 97 102 c h l) refl
-
-  pub value-above : 102 < c → digitValue c ≡ noDigit
-  unfolding digitValue
-  value-above h = rw (over 48 57 c (omega arith) (omega arith), over 65 70 c (omega arith) (omega arith), over 97 102 c (omega arith) h) refl
+-- The rule of the table, at each entry.
+pub digit-entry : (values : List ℕ) (c : ℕ) → values ≡ digitTable → c < 256 → getD values c 0 ≡ digitValue c
+unfolding digitTable
+digit-entry values c e h = entry-at 256 c 0 h digitValue values e
 
 pub value-digit : (c : ℕ) → digitValue c ≤ 15 → isDigit c ≡ true
 unfolding isDigit
@@ -56,6 +27,32 @@ pub value-no-digit : (c : ℕ) → 15 < digitValue c → isDigit c ≡ false
 unfolding isDigit
 value-no-digit c h = lt-leb (digitValue c) 15 h
 
+-- What is no byte is no digit.
+value-past : (c : ℕ) → 256 ≤ c → digitValue c ≡ noDigit
+unfolding digitValue
+value-past c h =
+    let figure : 57 < c = omega arith in
+    let capital : 70 < c = omega arith in
+    let small : 102 < c = omega arith in
+    simp (le-leb 48 c (omega arith), le-leb 65 c (omega arith), le-leb 97 c (omega arith), lt-leb c 57 figure, lt-leb c 70 capital, lt-leb c 102 small)
+
+-- A value is a digit's or the mark, by one test of all entries of the table.
+digit-or-mark : (c : ℕ) → c < 256 → cond (isDigit c) true (eqb (digitValue c) noDigit) ≡ true
+unfolding tabulate mapFrom isDigit digitValue
+digit-or-mark c h = entries-same 256 c true h (λ (d : ℕ). cond (isDigit d) true (eqb (digitValue d) noDigit)) (λ (d : ℕ). true) refl
+
+by-value : {C : Type 0} (c : ℕ) → (digitValue c ≤ 15 → C) → (digitValue c ≡ noDigit → C) → C
+by-value c digit mark =
+    by-order (digitValue c) 15 digit
+    (λ above. by-order 256 c (λ past. mark (value-past c past))
+    (λ byte. mark (eqb-true (digitValue c) noDigit (rw (value-no-digit c above) at (digit-or-mark c byte)))))
+
+pub value-most : (c : ℕ) → digitValue c ≤ noDigit
+value-most c = by-value c (λ digit. omega arith) (λ mark. omega arith)
+
+pub value-below-mark : (c : ℕ) → digitValue c < noDigit → digitValue c ≤ 15
+value-below-mark c less = by-value c (λ digit. digit) (λ mark. absurd (omega arith))
+
 -- 0A is no digit.
 pub digit-not-0A : (c : ℕ) → isDigit c ≡ true → c ≡ 10 → ⊥
 unfolding isDigit digitValue
@@ -64,12 +61,7 @@ digit-not-0A c h e =
     let z : _≡_ {A = ℕ} 0 1 = cc in
     omega arith
 
--- The digit of a value.
-
-pub digit-decimal : (v : ℕ) → v < 10 → digitOf v ≡ 48 + v
-unfolding digitOf
-digit-decimal v h = simp (lt-ltb _ _ h)
-
-pub digit-letter : (v : ℕ) → 10 ≤ v → digitOf v ≡ 55 + v
-unfolding digitOf
-digit-letter v h = simp (le-ltb _ _ h)
+-- The value of the digit of a value, by one test of the sixteen.
+pub digit-read-back : (v : ℕ) → v < 16 → digitValue (digitOf v) ≡ v
+unfolding tabulate mapFrom digitValue digitOf
+digit-read-back v h = entries-same 16 v 0 h (λ (d : ℕ). digitValue (digitOf d)) (λ (d : ℕ). d) refl

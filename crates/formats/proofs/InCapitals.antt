@@ -1,22 +1,22 @@
 -- Hexadecimal text has no small letter, a refusal's line among it: its digits are 0-9 and A-F. Assumes nothing.
 use mathlib.Core.List.{List, [], _∷_, _++_, map-append}
 use mathlib.Core.Path.{_≡_, refl, ap₂, _∙_}
-use Prim.Native.Nat.{ℕ, suc, _+_, _/_, _%_, _<_}
+use Prim.Native.Nat.{ℕ, suc, _/_, _%_, _<_}
 use native.Mathlib.Omega.{arith}
-use Rattle.general.proofs.Tests.{by-order}
+use Rattle.general.specs.Indexed.{mapFrom}
+use Rattle.general.specs.Table.{tabulate}
+use Rattle.general.proofs.Table.{entries-same}
 use Rattle.general.specs.BigEndian.{bytesOf}
 use Rattle.general.proofs.Bytes.{Bytes, bytes-each, bytes-append}
 use Rattle.general.proofs.BigEndian.{bytes-of-number}
 use Rattle.formats.specs.Capitals.{capital, InCapitals}
 use Rattle.formats.specs.HexText.{digitOf, hexDigits, hexLine}
 use Rattle.formats.specs.ResultLine.{refusalLine}
-use Rattle.formats.proofs.Digit.{digit-decimal, digit-letter}
-use Rattle.formats.proofs.Capitals.{capital-below}
 
+-- By one test of the sixteen digits.
 digit-in-capitals : (v : ℕ) → v < 16 → capital (digitOf v) ≡ digitOf v
-digit-in-capitals v h =
-    by-order 10 v (λ letter. rw (digit-letter v letter) (capital-below (55 + v) (omega arith)))
-    (λ figure. rw (digit-decimal v figure) (capital-below (48 + v) (omega arith)))
+unfolding tabulate mapFrom capital digitOf
+digit-in-capitals v h = entries-same 16 v 0 h (λ (d : ℕ). capital (digitOf d)) digitOf refl
 
 pub capitals-append : (a b : List ℕ) → InCapitals a → InCapitals b → InCapitals (a ++ b)
 unfolding InCapitals

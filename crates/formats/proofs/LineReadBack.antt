@@ -5,20 +5,12 @@ use mathlib.Core.Bool.{true}
 use Prim.Native.Nat.{ℕ, suc, _+_, _*_, _/_, _%_, _<_}
 use native.Mathlib.Omega.{arith}
 use lib.Seq.{append-snoc}
-use Rattle.general.proofs.Tests.{by-order}
 use Rattle.general.proofs.Bytes.{Bytes}
-use Rattle.formats.specs.Digit.{digitValue, isDigit}
+use Rattle.formats.specs.Digit.{isDigit}
 use Rattle.formats.specs.Line.{bytes, even, odd, scan, closed, linesFrom, linesOf}
-use Rattle.formats.proofs.Digit.{value-figure, value-capital, value-digit}
+use Rattle.formats.proofs.Digit.{value-digit, digit-read-back}
 use Rattle.formats.proofs.LineSteps.{lines-digit, lines-closed}
 use Rattle.formats.specs.HexText.{digitOf, hexDigits, hexLine}
-use Rattle.formats.proofs.Digit.{digit-decimal, digit-letter}
-
--- The value of the digit of a value.
-digit-read-back : (v : ℕ) → v < 16 → digitValue (digitOf v) ≡ v
-digit-read-back v h =
-    by-order 10 v (λ letter. rw (digit-letter v letter) (value-capital (55 + v) (omega arith) (omega arith) ∙ omega arith))
-    (λ figure. rw (digit-decimal v figure) (value-figure (48 + v) (omega arith) (omega arith) ∙ omega arith))
 
 digit-is-one : (v : ℕ) → v < 16 → isDigit (digitOf v) ≡ true
 digit-is-one v h = value-digit (digitOf v) (omega (arith, digit-read-back v h))

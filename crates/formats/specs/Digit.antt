@@ -1,9 +1,11 @@
 -- The value of a digit (document 01, 'The ticket': digits 0-9, A-F; document 02, Paper 1: "Digits of either case are accepted, mixed too").
+use mathlib.Core.List.{List}
 use Prim.Native.Nat.{ℕ, _-_}
 use mathlib.Core.Bool.{Bool, cond, _&&_}
 use lib.Dec.{leb}
+use Rattle.general.specs.Table.{tabulate}
 
--- What stands for a byte that is no digit.
+-- What stands for a byte that is no digit (document 02, Paper 3: "one mark above 15").
 abbrev pub noDigit : ℕ
 noDigit = 64
 
@@ -17,3 +19,7 @@ digitValue c =
 
 unfoldable pub isDigit : ℕ → Bool
 isDigit c = leb (digitValue c) 15
+
+-- The table of digit values (document 02, Paper 3: "a table of 256 entries indexed by the byte"). ByteCases has its rule, in one test.
+unfoldable pub digitTable : List ℕ
+digitTable = tabulate digitValue 256

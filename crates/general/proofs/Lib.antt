@@ -4,6 +4,7 @@ pub mod Bytes
 pub mod BigEndian
 pub mod Bits
 pub mod Indexed
+pub mod Table
 pub mod Sets
 pub mod Filling
 pub mod Overwrite

@@ -1,5 +1,4 @@
--- Tests: what both sides of a conjunction say, tests that say the same, cases on an order and on an equality, a bound of a choice, and a test computed at
--- every number below a bound. Assumes nothing.
+-- Tests: what both sides of a conjunction say, tests that say the same, cases on an order and on an equality, and a bound of a choice. Assumes nothing.
 use mathlib.Core.Path.{_≡_, refl, sym}
 use mathlib.Core.Bool.{Bool, true, false, cond, _&&_}
 use Prim.Native.Nat.{ℕ, _≤_, _<_}

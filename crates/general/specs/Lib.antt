@@ -1,4 +1,5 @@
 pub mod Indexed
+pub mod Table
 pub mod Bits
 pub mod BigEndian
 pub mod Text

@@ -8,9 +8,10 @@ use lib.Bits.{bitOr, or-shifted}
 use lib.ListN.{length, getD, drop, length-append}
 use lib.Seq.{drop-cons}
 use Rattle.general.specs.BigEndian.{number, numberFrom}
-use Rattle.formats.specs.Digit.{digitValue, isDigit}
+use Rattle.general.proofs.Tests.{by-order}
+use Rattle.formats.specs.Digit.{noDigit, digitValue, isDigit}
 use Rattle.formats.specs.Line.{even, odd, scan, linesFrom, linesOf}
-use Rattle.formats.proofs.Digit.{value-digit, value-no-digit}
+use Rattle.formats.proofs.Digit.{value-digit, value-no-digit, value-below-mark}
 use Rattle.formats.proofs.LineSteps.{lines-digit}
 use Rattle.lines.specs.Words.{upperWord, lowerWord}
 use Rattle.lines.specs.Scanned.{Scanned, Stops}
@@ -36,12 +37,14 @@ module _ (text : List ℕ) (at end head tail : ℕ) (here : Scanned text at end 
   d = getD text (end + 1) 0
 
   -- Two digits more.
-  pub scanned-more : (high low byte : ℕ) → 1 < length text - end → high ≡ digitValue c → low ≡ digitValue d → high ≤ 15 → low ≤ 15
-      → byte ≡ bitOr (high * 16 % 256) low
+  pub scanned-more : (high low byte : ℕ) → 1 < length text - end → high ≡ digitValue c → low ≡ digitValue d → high + low < noDigit
+      → byte ≡ bitOr (high * 16 % word) low
       → Scanned text at (end + 2) (bitOr (head * 256 % word) (tail / upperByte)) (bitOr (tail * 256 % word) byte)
   unfolding scan
-  scanned-more high low byte more eh el few few′ eb =
-      let shifted : high * 16 % 256 ≡ high * 16 = omega arith in
+  scanned-more high low byte more eh el unmarked eb =
+      let few = value-below-mark c (omega arith) in
+      let few′ = value-below-mark d (omega arith) in
+      let shifted : high * 16 % word ≡ high * 16 = omega arith in
       let joined : byte ≡ high * 16 + low = eb ∙ rw shifted (or-shifted high 4 low (omega arith)) in
       let small : byte < 256 = omega arith in
       let made : digitValue c * 16 + digitValue d ≡ byte = omega arith in
@@ -64,19 +67,24 @@ module _ (text : List ℕ) (at end head tail : ℕ) (here : Scanned text at end 
             ∙ ap (λ (k : ℕ). linesFrom (even (here .bytes ++ (byte ∷ []))) (drop k text)) next;
       }
 
--- No two digits stand where the value of either character is no digit's, nor at the end of the text.
+-- No two digits stand where the values of two characters add up to the mark or more, nor at the end of the text.
 and-false-right : (a : Bool) → (a && false) ≡ false
 and-false-right true = refl
 and-false-right false = refl
 
-module _ (text : List ℕ) (end value : ℕ) (none : 15 < value) where
-  pub stops-at-first : value ≡ digitValue (getD text end 0) → Stops text end
-  unfolding Stops
-  stops-at-first e more = rw (value-no-digit (getD text end 0) (omega arith)) refl
+module _ (text : List ℕ) (end : ℕ) where
+  abbrev first : ℕ
+  first = digitValue (getD text end 0)
 
-  pub stops-at-second : value ≡ digitValue (getD text (end + 1) 0) → Stops text end
+  abbrev second : ℕ
+  second = digitValue (getD text (end + 1) 0)
+
+  pub stops-at-mark : (high low : ℕ) → high ≡ first → low ≡ second → noDigit ≤ high + low → Stops text end
   unfolding Stops
-  stops-at-second e more = rw (value-no-digit (getD text (end + 1) 0) (omega arith)) (and-false-right (isDigit (getD text end 0)))
+  stops-at-mark high low e g marked more =
+      by-order first 15
+      (λ digit. rw (value-no-digit (getD text (end + 1) 0) (omega arith)) (and-false-right (isDigit (getD text end 0))))
+      (λ none. rw (value-no-digit (getD text end 0) none) refl)
 
 pub stops-at-end : (text : List ℕ) (end : ℕ) → length text - end ≤ 1 → Stops text end
 unfolding Stops

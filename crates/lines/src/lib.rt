@@ -1,40 +1,47 @@
 // The lines of a text: the value of a digit, and a cursor that reads one line, once, into numbers.
 ghost use mathlib.Core.Path.{_≡_};
-ghost use Prim.Native.Nat.{_≤_};
+ghost use Prim.Native.Nat.{_<_};
 ghost use lib.ListN.{length};
-ghost use Rattle.formats.specs.Digit.{digitValue};
+ghost use Rattle.formats.specs.Digit.{digitValue, digitTable};
 ghost use Rattle.lines.specs.Read.{readAt};
 ghost use Rattle.lines.specs.Scanned.{Scanned, Stops};
 
-// What stands for a byte that is no digit.
-const NO_DIGIT: u8 = 64;
+// What stands for a byte that is no digit: more than the values of two digits add up to.
+const NO_DIGIT: u8 = b'@';
 
-// The value of the last digit, F.
-const LAST_DIGIT: u8 = 15;
+// The value of each byte as a digit, or the mark of a byte that is none. A row has sixteen entries: 0 to 9 stand in the fourth, A to F in the fifth and a to f in
+// the seventh.
+const DIGITS: [u8; 256] = *b"\
+    @@@@@@@@@@@@@@@@\
+    @@@@@@@@@@@@@@@@\
+    @@@@@@@@@@@@@@@@\
+    \x00\x01\x02\x03\x04\x05\x06\x07\x08\x09@@@@@@\
+    @\x0A\x0B\x0C\x0D\x0E\x0F@@@@@@@@@\
+    @@@@@@@@@@@@@@@@\
+    @\x0a\x0b\x0c\x0d\x0e\x0f@@@@@@@@@\
+    @@@@@@@@@@@@@@@@\
+    @@@@@@@@@@@@@@@@\
+    @@@@@@@@@@@@@@@@\
+    @@@@@@@@@@@@@@@@\
+    @@@@@@@@@@@@@@@@\
+    @@@@@@@@@@@@@@@@\
+    @@@@@@@@@@@@@@@@\
+    @@@@@@@@@@@@@@@@\
+    @@@@@@@@@@@@@@@@";
 
-// The value of a byte as a digit, 0 to 15, or the mark of a byte that is none. (55 is A less 10, and 87 is a less 10.)
-fn digit_value(c: u8) -> u8
+// The table, made once and lent to all that reads by it: a constant is made anew wherever it stands.
+pub fn digit_values() -> [u8; 256]
+    ensures { λ r. ⌜ r ≡ digitTable ⌝ }
+{
+    DIGITS
+}
+
+// The value of a byte as a digit, 0 to 15, or the mark of a byte that is none.
+fn digit_value(values: &[u8; 256], c: u8) -> u8
+    requires { ⌜ now values ≡ digitTable ⌝ }
     ensures { λ r. ⌜ r ≡ digitValue c ⌝ }
 {
-    if c <= b'9' {
-        if c < b'0' {
-            return NO_DIGIT;
-        }
-        return c - b'0';
-    }
-    if c < b'A' {
-        return NO_DIGIT;
-    }
-    if c <= b'F' {
-        return c - 55;
-    }
-    if c < b'a' {
-        return NO_DIGIT;
-    }
-    if c <= b'f' {
-        return c - 87;
-    }
-    NO_DIGIT
+    values[c as usize]
 }
 
 // A byte as a word.
@@ -51,25 +58,23 @@ struct Digits {
     tail: u64,
 }
 
-// Reads the digits from `at` on, two at a time.
-fn read_digits(text: &[u8], at: usize) -> Digits
-    requires { ⌜ at ≤ length (now text) ⌝ }
+// Reads the digits from `at` on, two at a time; one test of their sum is a test of both.
+fn read_digits(values: &[u8; 256], text: &[u8], at: usize) -> Digits
+    requires { ⌜ now values ≡ digitTable ⌝ }
+    requires { ⌜ at < length (now text) ⌝ }
     ensures { λ r. ⌜ Scanned (now (text .entry)) at (r .end) (r .head) (r .tail) × Stops (now (text .entry)) (r .end) ⌝ }
 {
     let mut end = at;
     let mut head: u64 = 0;
     let mut tail: u64 = 0;
-    while 1 < text.len() - end {
-        let high = digit_value(text[end]);
-        if LAST_DIGIT < high {
-            return Digits { end, head, tail };
-        }
-        let low = digit_value(text[end + 1]);
-        if LAST_DIGIT < low {
+    while end < text.len() - 1 {
+        let high = digit_value(values, text[end]);
+        let low = digit_value(values, text[end + 1]);
+        if NO_DIGIT <= high + low {
             return Digits { end, head, tail };
         }
         head = (head << 8) | (tail >> 56);
-        tail = (tail << 8) | wide((high << 4) | low);
+        tail = (tail << 8) | ((wide(high) << 4) | wide(low));
         end += 2;
     }
     Digits { end, head, tail }
@@ -94,15 +99,16 @@ pub enum LineRead {
 }
 
 impl Cursor {
-    // The line at the cursor's place. It looks no further than the first character that is no digit.
-    pub fn read(self, text: &[u8]) -> LineRead
+    // The line at the cursor's place, by a table that is lent. It looks no further than the first character that is no digit.
+    pub fn read_by(self, values: &[u8; 256], text: &[u8]) -> LineRead
+        requires { ⌜ now values ≡ digitTable ⌝ }
         ensures { λ r. ⌜ r ≡ readAt (now (text .entry)) (self .at) ⌝ }
     {
         let at = self.at;
         if text.len() <= at {
             return LineRead::NoLine;
         }
-        let digits = read_digits(text, at);
+        let digits = read_digits(values, text, at);
         let end = digits.end;
         if text.len() <= end {
             return LineRead::NoLine;
@@ -119,5 +125,13 @@ impl Cursor {
             tail: digits.tail,
             next: Cursor { at: end + 1 },
         }
+    }
+
+    // The same, by a table of its own.
+    pub fn read(self, text: &[u8]) -> LineRead
+        ensures { λ r. ⌜ r ≡ readAt (now (text .entry)) (self .at) ⌝ }
+    {
+        let values = digit_values();
+        self.read_by(&values, text)
     }
 }

@@ -27,6 +27,8 @@ pub struct Counts {
     pub settlings: u64,
     /// Runs by separate local parts.
     pub separate_runs: u64,
+    /// Tickets, of those above, with each of the 256 bytes in place of another.
+    pub with_each_byte: u64,
     /// Tickets that the module under test ran and settled in other letters too.
     pub in_other_letters: u64,
     /// Calls of start.
@@ -42,7 +44,8 @@ impl fmt::Display for Counts {
         write!(
             f,
             "{} tickets ({} accepted, {} refused) in {} runs, {} settlings, \
-             {} runs by separate parts; {} of these tickets in other letters too; \
+             {} runs by separate parts; {} of these tickets with each of the 256 bytes in place \
+             of another; {} of these tickets in other letters too; \
              {} starts, {} speeches, {} closings",
             self.accepted + self.refused,
             self.accepted,
@@ -50,6 +53,7 @@ impl fmt::Display for Counts {
             self.runs,
             self.settlings,
             self.separate_runs,
+            self.with_each_byte,
             self.in_other_letters,
             self.starts,
             self.speeches,

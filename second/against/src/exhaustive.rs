@@ -1,10 +1,12 @@
-//! Everything small, and every call of start, speak and close near a valid one.
+//! Everything small, every byte at every place of a ticket, and every call of
+//! start, speak and close near a valid one.
 
 use second::interface::Agreement;
 use second::local::{SPEECH_LENGTH, STATE_LENGTH};
 use second::patterns::failure_patterns;
 use second::report::result_length;
 use second::ticket::MOST_PROCESSES;
+use second::worked;
 use second::Ticket;
 
 use crate::comparison::{rooms_around, Comparison, Difference};
@@ -51,6 +53,55 @@ pub fn rooms<M: Agreement>(comparison: &mut Comparison<M>) -> Result<(), Differe
         comparison.in_other_letters(&ticket.text(), longest)?;
     }
     Ok(())
+}
+
+/// Each of the 256 bytes at every place of a ticket, and each two of them as the
+/// digits of one byte: a single wrong entry of a table of digits shows in these.
+pub fn bytes<M: Agreement>(comparison: &mut Comparison<M>) -> Result<(), Difference> {
+    (0..=u8::MAX).try_for_each(|byte| {
+        byte_at_every_place(comparison, byte)?;
+        byte_before_every_byte(comparison, byte)
+    })
+}
+
+/// `byte` at every place of cases 1 and 5, in capitals and in small letters.
+/// They have each kind of line. Decided is what process 1 proposes in case 1 and
+/// process 2 in case 5, so the digits' values are seen there.
+fn byte_at_every_place<M: Agreement>(
+    comparison: &mut Comparison<M>,
+    byte: u8,
+) -> Result<(), Difference> {
+    let capitals = [1, 5].map(|number| worked::case(number).text());
+    let small = [&capitals[0], &capitals[1]].map(|text| text.to_ascii_lowercase());
+    for sound in capitals.into_iter().chain(small) {
+        for place in 0..sound.len() {
+            let mut text = sound.clone();
+            text[place] = byte;
+            changed_ticket(comparison, &text, 4)?;
+        }
+    }
+    Ok(())
+}
+
+/// `byte` and any other where the last two digits of a proposal stand.
+fn byte_before_every_byte<M: Agreement>(
+    comparison: &mut Comparison<M>,
+    byte: u8,
+) -> Result<(), Difference> {
+    (0..=u8::MAX).try_for_each(|other| {
+        let text = [&b"010100\n0201000000"[..], &[byte, other], b"\n04\n"].concat();
+        changed_ticket(comparison, &text, 1)
+    })
+}
+
+fn changed_ticket<M: Agreement>(
+    comparison: &mut Comparison<M>,
+    text: &[u8],
+    n: u8,
+) -> Result<(), Difference> {
+    comparison.counts.with_each_byte += 1;
+    comparison.ticket(text, &[result_length(n)])?;
+    comparison.in_other_letters(text, result_length(n))
 }
 
 /// Every start with numbers up to 66 and some large ones, and lent lengths
@@ -135,4 +186,73 @@ fn speak_and_close<M: Agreement>(
     }
     comparison.close(state, &[0x22, round])?;
     comparison.close(state, &[0x22, round, 0x21, round, 1, 2, 3, 4])
+}
+
+#[cfg(test)]
+mod tests {
+    use super::*;
+    use second::Simulator;
+
+    /// The second implementation with one wrong entry in its table of digits:
+    /// it takes a byte for another.
+    struct Misreads {
+        second: Simulator,
+        byte: u8,
+        taken_for: u8,
+    }
+
+    impl Misreads {
+        fn misread(&self, ticket: &[u8]) -> Vec<u8> {
+            let read = |&byte: &u8| if byte == self.byte { self.taken_for } else { byte };
+            ticket.iter().map(read).collect()
+        }
+    }
+
+    impl Agreement for Misreads {
+        fn run(&mut self, ticket: &[u8], output: &mut [u8]) -> u64 {
+            let ticket = self.misread(ticket);
+            Agreement::run(&mut self.second, &ticket, output)
+        }
+
+        fn settle(&mut self, ticket: &[u8]) -> u64 {
+            let ticket = self.misread(ticket);
+            self.second.settle(&ticket)
+        }
+
+        fn start(&mut self, process: u64, n: u64, t: u64, value: u32, state: &mut [u8]) -> u64 {
+            self.second.start(process, n, t, value, state)
+        }
+
+        fn speak(&mut self, state: &[u8], output: &mut [u8]) -> u64 {
+            self.second.speak(state, output)
+        }
+
+        fn close(&mut self, state: &mut [u8], heard: &[u8]) -> u64 {
+            self.second.close(state, heard)
+        }
+    }
+
+    /// What is found, for `byte` by itself and beside others, in a module that
+    /// takes it for `taken_for`.
+    fn found(byte: u8, taken_for: u8) -> [Result<(), Difference>; 2] {
+        let misreads = || Misreads { second: Simulator::new(), byte, taken_for };
+        [
+            byte_at_every_place(&mut Comparison::new(misreads()), byte),
+            byte_before_every_byte(&mut Comparison::new(misreads()), byte),
+        ]
+    }
+
+    #[test]
+    fn each_wrong_entry_is_seen() {
+        for byte in 0..=u8::MAX {
+            let right = if byte.is_ascii_hexdigit() { byte.to_ascii_uppercase() } else { b'G' };
+            // The 16 values, and no digit.
+            for &entry in b"0123456789ABCDEFG".iter().filter(|&&entry| entry != right) {
+                let found = found(byte, entry);
+                assert!(found.iter().all(Result::is_err), "{byte:02X} as {entry:02X}");
+            }
+        }
+        assert_eq!(found(b'a', b'A'), [Ok(()), Ok(())]);
+        assert_eq!(found(0xFF, b'G'), [Ok(()), Ok(())]);
+    }
 }

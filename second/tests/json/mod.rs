@@ -1,5 +1,5 @@
-//! As much of JSON as the vectors use: flat objects of strings, whole numbers
-//! and lists of whole numbers, one object to a line.
+//! As much of JSON as the vectors use: flat objects of strings, whole numbers,
+//! lists of whole numbers and null, one object to a line.
 
 use std::collections::BTreeMap;
 use std::iter::Peekable;
@@ -11,6 +11,7 @@ pub enum Value {
     Text(String),
     Number(u64),
     List(Vec<u64>),
+    Null,
 }
 
 /// An object by its members' names.
@@ -48,6 +49,11 @@ impl Object {
             Value::Number(number) => *number,
             other => panic!("{name} is no number: {other:?}"),
         }
+    }
+
+    /// A number, or none where null stands.
+    pub fn number_if_any(&self, name: &str) -> Option<u64> {
+        (self.0[name] != Value::Null).then(|| self.number(name))
     }
 
     pub fn list(&self, name: &str) -> &[u64] {
@@ -99,6 +105,10 @@ impl Reader<'_> {
         }
         match self.0.peek() {
             Some('"') => Value::Text(self.string()),
+            Some('n') => {
+                "null".chars().for_each(|letter| self.expect(letter));
+                Value::Null
+            }
             _ => Value::Number(self.number()),
         }
     }

@@ -1,9 +1,9 @@
 //! Compares the proved library with the second implementation.
 //!
-//! `compare [--short] [--seed NUMBER] [--count NUMBER]`: everything small, and
-//! then `count` random tickets with calls of start, speak and close. The last
-//! line says what was compared; a difference is shown by the smallest ticket
-//! that could be found, and the exit status is 1.
+//! `compare [--short] [--seed NUMBER] [--count NUMBER]`: everything small, every
+//! byte at every place of a ticket, and then `count` random tickets with calls of
+//! start, speak and close. The last line says what was compared; a difference is
+//! shown by the smallest ticket that could be found, and the exit status is 1.
 
 use std::env;
 use std::process::ExitCode;
@@ -50,8 +50,9 @@ fn compare(
         let mut rng = Rng::new(seed);
         (0..count).try_for_each(|_| random::ticket_and_calls(comparison, &mut rng))
     };
-    let parts: [Part; 5] = [
+    let parts: [Part; 6] = [
         ("every ticket of up to 4 processes", &exhaustive::tickets),
+        ("every byte at every place of a ticket", &exhaustive::bytes),
         ("every output length for each n", &exhaustive::rooms),
         ("every start near the limits", &exhaustive::starts),
         ("speak and close near the limits", &exhaustive::states),

@@ -1,50 +1,16 @@
--- `lines::Cursor::read` meets its contract: each return is one thing that may stand behind the digits. Assumes nothing.
+-- `lines::Cursor::read` meets its contract: the table that it lends is the one of `digit_values`. Assumes nothing.
 use borrow.Author.Needs.{needs}
-use native.Mathlib.Omega.{arith}
-use mathlib.Core.Path.{sym}
-use Rattle.lines.proofs.Answer.{answer-past, answer-unclosed, answer-other, answer-empty, answer-line}
 use Rattle.lines.proofs.Cursor.read.Statement.{statement}
 use Rattle.lines.proofs.Cursor.read.Tie as tie
 
+digit-values-requires : tie.Need-digit-values-requires
+digit-values-requires c κs = search needs
+
+read-by-requires : tie.Need-read-by-requires
+read-by-requires c κs = c .before .digit-values .ensures
+
 returns : tie.Need-returns
-returns c = sym (answer-past _ _ (omega arith))
-
-read-digits-requires : tie.Need-read-digits-requires
-read-digits-requires c κs = search needs
-
-returns-2 : tie.Need-returns-2
-returns-2 c = sym (answer-unclosed _ _ _ _ _ (c .before .read-digits .ensures .0) (omega arith))
-
-shared-slice-read-if3 : tie.Need-shared-slice-read-if3
-shared-slice-read-if3 c = search needs
-
-returns-3 : tie.Need-returns-3
-returns-3 c =
-    let digits = c .before .before .before .read-digits .ensures in
-    sym (answer-other _ _ _ _ _ (digits .0) (digits .1) (omega arith) (c .if3 .taken))
-
-returns-4 : tie.Need-returns-4
-returns-4 c = sym (answer-empty _ _ _ _ _ (c .before .before .before .before .read-digits .ensures .0) (omega arith) (omega arith) (omega arith))
-
-sub-t6 : tie.Need-sub-t6
-sub-t6 c = search needs
-
-add-t11 : tie.Need-add-t11
-add-t11 c = search needs
-
-returns-5 : tie.Need-returns-5
-returns-5 c = sym (answer-line _ _ _ _ _ (c .before .before .before .before .read-digits .ensures .0) (omega arith) (omega arith) (c .if4 .left))
+returns c = c .read-by .ensures
 
 pub read-spec : {M : Type 1} → statement M
-read-spec =
-    tie.close
-    (tie.spec
-    returns
-    read-digits-requires
-    returns-2
-    shared-slice-read-if3
-    returns-3
-    returns-4
-    sub-t6
-    add-t11
-    returns-5)
+read-spec = tie.close (tie.spec digit-values-requires read-by-requires returns)
