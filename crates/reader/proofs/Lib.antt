@@ -1,1 +1,2 @@
 pub mod Advanced
+pub mod Walks

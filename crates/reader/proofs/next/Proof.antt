@@ -56,6 +56,7 @@ use Rattle.lines.proofs.LineRead as Answer
 use Rattle.lines.proofs.LineRead.Laws as Answer′
 use Rattle.reader.proofs.LineReader as Reader
 use Rattle.reader.proofs.LineReader.Laws as Reader′
+use Rattle.reader.proofs.Walks.{PlaceBehind, to-behind, goes-behind, behind-said}
 use Rattle.reader.proofs.place_behind as place-behind
 use Rattle.reader.proofs.place_behind.Symbol as place-behind-def
 use Rattle.reader.proofs.place_behind.Symbol.{name as #reader·place-behind}
@@ -90,12 +91,9 @@ abbrev stayed : Stays (next.ended .signature .params) (next.ended .kept)
 stayed = (stay-ref (0 ∷ []) tt behind, tt)
 
 module _ {M : Type 1} (𝓤 : URA M) (H : Heap 𝓤) (A : Atoms 𝓤) (at-mem : Memory → SProp 𝓤) (run : Routine → Fun 𝓤) where
-  -- the contracts that the proof cites
+  -- the contract that the proof cites, beside that of `place_behind`
   abbrev ReadAt : Contract 𝓤
   ReadAt = tripleOf 𝓤 H A read-at.signature (read-at.spec 𝓤 H A at-mem run)
-
-  abbrev PlaceBehind : Contract 𝓤
-  PlaceBehind = tripleOf 𝓤 H A place-behind.signature (place-behind.spec 𝓤 H A at-mem run)
 
 module _ {M : Type 1} (𝓤 : URA M) (H : Heap 𝓤) (A : Atoms 𝓤) (W : Given 𝓤 H A) (at-mem : Memory → SProp 𝓤) (run : Routine → Fun 𝓤) (κ κ′ : Lft) (q q′ : Share)
     (bounds : AllOutlive 2 (next.signature .outlives) (κ, (κ′, tt))) (b o : ℕ) (γ : GName) (h : LineReader) where
@@ -131,26 +129,16 @@ module _ {M : Type 1} (𝓤 : URA M) (H : Heap 𝓤) (A : Atoms 𝓤) (W : Given
   abbrev fields : Values (D κ′ .parts)
   fields = (h .text, (h .at, tt))
 
-  -- what the callees are passed
+  -- what `read_at` is passed
   abbrev passed : Vals read-at.signature (κ′, tt)
   passed = (v ∷ [], (vint w64 (h .at) ∷ [], tt))
 
   abbrev to-read : ReadAt 𝓤 H A at-mem run .Ghost
   to-read = (((κ′, tt), (q′, tt), tt, (h .text, (h .at, tt)), passed), tt)
 
-  abbrev handed : Val → Vals place-behind.signature tt
-  handed u = (u ∷ [], (vint w64 (h .at) ∷ [], tt))
-
-  abbrev to-behind : LineRead → Val → PlaceBehind 𝓤 H A at-mem run .Ghost
-  to-behind line u = ((tt, tt, tt, (line, (h .at, tt)), handed u), tt)
-
   read-asked : ent 𝓤 (onEntry 𝓤 H A read-at.signature (κ′, tt) (q′, tt) (h .text, (h .at, tt)) passed) (ReadAt 𝓤 H A at-mem run .pre to-read)
   read-asked =
       qed W ((‵ (flft κ′ q′) ⊛ ‵ ftrue) ∷ ‵ (owns (ShrSlice (named 0) κ′ u8 ∷ usize ∷ []) (h .text, (h .at, tt)) passed) ∷ []) ∵ join ! $ frame ! $ done !
-
-  behind-asked : (line : LineRead) (u : Val)
-      → ent 𝓤 (onEntry 𝓤 H A place-behind.signature tt tt (line, (h .at, tt)) (handed u)) (PlaceBehind 𝓤 H A at-mem run .pre (to-behind line u))
-  behind-asked line u = qed W (‵ ftrue ∷ ‵ (owns (Answer.the-row ∷ usize ∷ []) (line, (h .at, tt)) (handed u)) ∷ []) ∵ join ! $ frame ! $ done !
 
   -- what the struct owns gives what `read_at` asks, and is kept
   goes-read : h .at < 2 ^ 64
@@ -165,23 +153,10 @@ module _ {M : Type 1} (𝓤 : URA M) (H : Heap 𝓤) (A : Atoms 𝓤) (W : Given
       fjoin ! $
       move ! (2 ∷ 0 ∷ []) $ use2 W (raw (ReadAt 𝓤 H A at-mem run .pre to-read)) read-asked $ frame ! $ done !)
 
-  -- the line is Copy: `place_behind` takes a copy
-  goes-behind : (line : LineRead) (u : Val) → h .at < 2 ^ 64
-      → ent 𝓤 (sem 𝓤 H A (OwnLine line u)) (sep 𝓤 (PlaceBehind 𝓤 H A at-mem run .pre (to-behind line u)) (sem 𝓤 H A (OwnLine line u)))
-  goes-behind line u fits =
-      qed W (‵ (OwnLine line u) ∷ []) ∵
-      use1 W (‵ (OwnLine line u) ⊛ ‵ (OwnLine line u)) (EL.copy Answer.the-type Answer′.the-copy 𝓤 H A W .twice line (u ∷ [])) $ split ! $
-      nothing ! $ owned ! usize (Is usize) (uint-makes 𝓤 H A W w64) (h .at) _ (refl, fits) $ fjoin ! $ move ! (1 ∷ 0 ∷ []) $ fjoin ! $
-      nothing ! $ use2 W (raw (PlaceBehind 𝓤 H A at-mem run .pre (to-behind line u))) (behind-asked line u) $ frame ! $ done !
-
   -- of a callee's `ensured`, the clause alone: it has no `&mut`, so what is said of last values is dropped
   read-said : (line : LineRead) → ent 𝓤 (ensured 𝓤 H A read-at.ended (read-at.clauses 𝓤 H A at-mem run) (κ′, tt) (h .text, (h .at, tt)) tt line)
       (fact 𝓤 (line ≡ found))
   read-said line = exE 𝓤 _ (λ ws. snd∗ 𝓤 (sem 𝓤 H A (lasts read-at.ended (κ′, tt) (h .text, (h .at, tt)) ws)) (fact 𝓤 (line ≡ found)))
-
-  behind-said : (line : LineRead) (n : ℕ)
-      → ent 𝓤 (ensured 𝓤 H A place-behind.ended (place-behind.clauses 𝓤 H A at-mem run) tt (line, (h .at, tt)) tt n) (fact 𝓤 (n ≡ placeBehind line (h .at)))
-  behind-said line n = exE 𝓤 _ (λ ws. snd∗ 𝓤 (sem 𝓤 H A (lasts place-behind.ended tt (line, (h .at, tt)) ws)) (fact 𝓤 (n ≡ placeBehind line (h .at))))
 
   -- what text owns is kept, and at's facts are made anew
   again : (n : ℕ) → n < 2 ^ 64 → ent 𝓤 (sem 𝓤 H A (Own h)) (sem 𝓤 H A (Own (moved n)))
@@ -229,12 +204,13 @@ module _ {M : Type 1} (𝓤 : URA M) (H : Heap 𝓤) (A : Atoms 𝓤) (W : Given
         -- [the line; the token; what the struct owns; its cell; the open borrow; obs; auth; …; _5; …; _4; …; room for _3; …; _2; …; _1; …; room for _0; …]
         peeks ! Answer.the-row (Is Answer.the-row) (shows 𝓤 H A Answer.the-row) line (u ∷ []) (λ is.
         land ! (from ! (stop !)) (init ! 12 refl (EL.lawful Answer.the-type Answer′.the-laws 𝓤 H A W tt .typed line _ is .0)) $
-        use1 W (raw (PlaceBehind 𝓤 H A at-mem run .pre (to-behind line u)) ⊛ ‵ (OwnLine line u)) (goes-behind line u (was .1 .1 .1 .0 .1)) $ split ! $
-        calls-at ! fm (PlaceBehind 𝓤 H A at-mem run) known-behind (to-behind line u)
+        use1 W (raw (PlaceBehind 𝓤 H A at-mem run .pre (to-behind 𝓤 H A at-mem run line u (h .at))) ⊛ ‵ (OwnLine line u))
+        (goes-behind 𝓤 H A W at-mem run line u (h .at) (was .1 .1 .1 .0 .1)) $ split ! $
+        calls-at ! fm (PlaceBehind 𝓤 H A at-mem run) known-behind (to-behind 𝓤 H A at-mem run line u (h .at))
         (and-then ! (load ! (from ! (stop !)) (look ! 13 refl)) (and-then ! (load ! (from ! (stop !)) (look ! 15 refl)) (no-more !))) (λ w.
         use1 W (later (some (λ (n : ℕ). (‵ ftrue ⊛ ‵ (usize .own n (w ∷ [])))
         ⊛ raw (ensured 𝓤 H A place-behind.ended (place-behind.clauses 𝓤 H A at-mem run) tt (line, (h .at, tt)) tt n)))) (id⊢ 𝓤 _) $ await ! tt $ pick ! (λ n.
-        split ! $ move ! (1 ∷ []) $ use1 W (raw (fact 𝓤 (n ≡ placeBehind line (h .at)))) (behind-said line n) $
+        split ! $ move ! (1 ∷ []) $ use1 W (raw (fact 𝓤 (n ≡ placeBehind line (h .at)))) (behind-said 𝓤 H A at-mem run line (h .at) n) $
         heard ! (n ≡ placeBehind line (h .at)) (λ g. split ! $ drop ! $
         -- [the place; the line; the token; what the struct owns; its cell; the open borrow; obs; auth; …; _5; …; room for _4; …; _3; …; _2; …; _1; …;
         -- room for _0; …]
