@@ -98,8 +98,9 @@ fn wide(x: u8) -> usize
     x as usize
 }
 
-// The byte that two digits stand for, by the table of their values. What it gives of other characters no line has.
-fn byte_of(values: &[u8; 256], high: u8, low: u8) -> u8 {
+// The byte that two digits stand for. What it gives of other characters no line has.
+fn byte_of(high: u8, low: u8) -> u8 {
+    let values = lines::digit_values();
     values[high as usize] % 16 * 16 + values[low as usize] % 16
 }
 
@@ -108,10 +109,9 @@ fn take_bytes(text: &[u8], at: usize, size: usize, bytes: &mut [u8])
     requires { ⌜ at + 2 * size ≤ length (now text) ⌝ }
     requires { ⌜ size ≤ length (now bytes) ⌝ }
 {
-    let values = lines::digit_values();
     let mut i = 0;
     while i < size {
-        bytes[i] = byte_of(&values, text[at + 2 * i], text[at + 2 * i + 1]);
+        bytes[i] = byte_of(text[at + 2 * i], text[at + 2 * i + 1]);
         i += 1;
     }
 }

@@ -8,13 +8,10 @@ use Rattle.replay.proofs.take_bytes.Statement.{statement}
 use Rattle.replay.proofs.take_bytes.Tie as tie
 
 abbrev Inv-loop : tie.InvT-loop
-Inv-loop text at size bytes₀ values₀ i₀ bytes i = length bytes ≡ length bytes₀
+Inv-loop text at size bytes₀ i₀ bytes i = length bytes ≡ length bytes₀
 
 abbrev μ-loop : tie.MeasureT-loop
-μ-loop text at size bytes₀ values₀ i₀ bytes i = size - i
-
-digit-values-requires : tie.Need-digit-values-requires Inv-loop μ-loop
-digit-values-requires c κs = search needs
+μ-loop text at size bytes₀ i₀ bytes i = size - i
 
 loop-holds : tie.Need-loop-holds Inv-loop μ-loop
 loop-holds c = refl
@@ -67,7 +64,6 @@ take-bytes-spec =
     (tie.spec
     Inv-loop
     μ-loop
-    digit-values-requires
     loop-holds
     mul-byte-of
     add-byte-of
