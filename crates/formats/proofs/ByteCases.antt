@@ -1,7 +1,7 @@
 -- What each of the 256 bytes is, computed. Assumes nothing.
 use mathlib.Core.Path.{refl}
-use Rattle.general.specs.BigEndian.{number, numberFrom}
 use native.Mathlib.Omega.{arith}
+use Rattle.general.specs.BigEndian.{number, numberFrom}
 use Rattle.general.specs.Indexed.{mapFrom}
 use Rattle.general.specs.Table.{tabulate}
 use Rattle.general.specs.Text.{ascii}

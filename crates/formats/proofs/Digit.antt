@@ -27,31 +27,21 @@ pub value-no-digit : (c : ℕ) → 15 < digitValue c → isDigit c ≡ false
 unfolding isDigit
 value-no-digit c h = lt-leb (digitValue c) 15 h
 
--- What is no byte is no digit.
-value-past : (c : ℕ) → 256 ≤ c → digitValue c ≡ noDigit
-unfolding digitValue
-value-past c h =
-    let figure : 57 < c = omega arith in
-    let capital : 70 < c = omega arith in
-    let small : 102 < c = omega arith in
-    simp (le-leb 48 c (omega arith), le-leb 65 c (omega arith), le-leb 97 c (omega arith), lt-leb c 57 figure, lt-leb c 70 capital, lt-leb c 102 small)
-
--- A value is a digit's or the mark, by one test of all entries of the table.
+-- A byte's value is a digit's or the mark, by one test of all entries of the table.
 digit-or-mark : (c : ℕ) → c < 256 → cond (isDigit c) true (eqb (digitValue c) noDigit) ≡ true
 unfolding tabulate mapFrom isDigit digitValue
 digit-or-mark c h = entries-same 256 c true h (λ (d : ℕ). cond (isDigit d) true (eqb (digitValue d) noDigit)) (λ (d : ℕ). true) refl
 
-by-value : {C : Type 0} (c : ℕ) → (digitValue c ≤ 15 → C) → (digitValue c ≡ noDigit → C) → C
-by-value c digit mark =
-    by-order (digitValue c) 15 digit
-    (λ above. by-order 256 c (λ past. mark (value-past c past))
-    (λ byte. mark (eqb-true (digitValue c) noDigit (rw (value-no-digit c above) at (digit-or-mark c byte)))))
+by-digit-or-mark : {C : Type 0} (c : ℕ) → c < 256 → (digitValue c ≤ 15 → C) → (digitValue c ≡ noDigit → C) → C
+by-digit-or-mark c h digit mark =
+    by-order (digitValue c) 15 digit (λ above. mark (eqb-true (digitValue c) noDigit (rw (value-no-digit c above) at (digit-or-mark c h))))
 
-pub value-most : (c : ℕ) → digitValue c ≤ noDigit
-value-most c = by-value c (λ digit. omega arith) (λ mark. omega arith)
+-- So no entry is above the mark, and what is below it is a digit's.
+pub value-most : (c : ℕ) → c < 256 → digitValue c ≤ noDigit
+value-most c h = by-digit-or-mark c h (λ digit. omega arith) (λ mark. omega arith)
 
-pub value-below-mark : (c : ℕ) → digitValue c < noDigit → digitValue c ≤ 15
-value-below-mark c less = by-value c (λ digit. digit) (λ mark. absurd (omega arith))
+pub value-below-mark : (c : ℕ) → c < 256 → digitValue c < noDigit → digitValue c ≤ 15
+value-below-mark c h less = by-digit-or-mark c h (λ digit. digit) (λ mark. absurd (omega arith))
 
 -- 0A is no digit.
 pub digit-not-0A : (c : ℕ) → isDigit c ≡ true → c ≡ 10 → ⊥

@@ -10,7 +10,7 @@ use Rattle.general.proofs.Indexed.{getD-mapFrom}
 module _ {A : Type 0} (count k : ℕ) (none : A) (h : k < count) where
   tabulate-at : (f : ℕ → A) → getD (tabulate f count) k none ≡ f k
   unfolding tabulate
-  tabulate-at f = getD-mapFrom (λ (j other : ℕ). f j) 0 (replicate count 0) k 0 none (rw (length-replicate {A = ℕ} count 0) h) ∙ ap f (zero-add k)
+  tabulate-at f = getD-mapFrom (λ (j filler : ℕ). f j) 0 (replicate count 0) k 0 none (rw (length-replicate {A = ℕ} count 0) h) ∙ ap f (zero-add k)
 
   -- The entry of a list that is a function's table.
   pub entry-at : (f : ℕ → A) (table : List A) → table ≡ tabulate f count → getD table k none ≡ f k

@@ -1,4 +1,4 @@
--- Lists whose elements are numbered from 1, as processes are (document 01, 'The ticket': "stations 1 to n in order").
+-- Lists whose elements are numbered; from 1, as processes are (document 01, 'The ticket': "stations 1 to n in order").
 use mathlib.Core.List.{List, [], _∷_}
 use Prim.Native.Nat.{ℕ, suc, _+_}
 use mathlib.Core.Bool.{Bool, cond}

@@ -7,4 +7,4 @@ use Rattle.general.specs.Indexed.{mapFrom}
 module _ {A : Type 0} where
   -- What a function gives for 0 and each further number below `count`, each at the number's place.
   unfoldable pub tabulate : (ℕ → A) → (count : ℕ) → List A
-  tabulate f count = mapFrom (λ (k none : ℕ). f k) 0 (replicate count 0)
+  tabulate f count = mapFrom (λ (k filler : ℕ). f k) 0 (replicate count 0)

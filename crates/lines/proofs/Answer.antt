@@ -1,4 +1,4 @@
--- What reading a line answers, a law for each return of `Cursor::read`: by the bytes whose digits stand from its place on, and by what stands behind.
+-- What reading a line answers, a law for each return of `Cursor::read_by_table`: by the bytes whose digits stand from its place on, and by what stands behind.
 -- Assumes nothing.
 use mathlib.Core.List.{List, [], _∷_}
 use mathlib.Core.Path.{_≡_, refl, ap, _∙_}

@@ -1,4 +1,4 @@
--- What callers of `Cursor::read` know by its answer: an accepted line, no line, and the end of the text. Assumes nothing.
+-- What callers of `Cursor::read` and `Cursor::read_by_table` know by the answer: an accepted line, no line, and the end of the text. Assumes nothing.
 use mathlib.Core.List.{List, [], _∷_, _++_}
 use mathlib.Core.Path.{_≡_, refl, sym, ap, subst, _∙_}
 use mathlib.Core.Bool.{Bool, true, false, cond}

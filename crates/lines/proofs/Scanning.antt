@@ -11,7 +11,7 @@ use Rattle.general.specs.BigEndian.{number, numberFrom}
 use Rattle.general.proofs.Tests.{by-order}
 use Rattle.formats.specs.Digit.{noDigit, digitValue, isDigit}
 use Rattle.formats.specs.Line.{even, odd, scan, linesFrom, linesOf}
-use Rattle.formats.proofs.Digit.{value-digit, value-no-digit, value-below-mark}
+use Rattle.formats.proofs.Digit.{value-digit, value-no-digit}
 use Rattle.formats.proofs.LineSteps.{lines-digit}
 use Rattle.lines.specs.Words.{upperWord, lowerWord}
 use Rattle.lines.specs.Scanned.{Scanned, Stops}
@@ -37,13 +37,11 @@ module _ (text : List ℕ) (at end head tail : ℕ) (here : Scanned text at end 
   d = getD text (end + 1) 0
 
   -- Two digits more.
-  pub scanned-more : (high low byte : ℕ) → 1 < length text - end → high ≡ digitValue c → low ≡ digitValue d → high + low < noDigit
+  pub scanned-more : (high low byte : ℕ) → 1 < length text - end → high ≡ digitValue c → low ≡ digitValue d → high ≤ 15 → low ≤ 15
       → byte ≡ bitOr (high * 16 % word) low
       → Scanned text at (end + 2) (bitOr (head * 256 % word) (tail / upperByte)) (bitOr (tail * 256 % word) byte)
   unfolding scan
-  scanned-more high low byte more eh el unmarked eb =
-      let few = value-below-mark c (omega arith) in
-      let few′ = value-below-mark d (omega arith) in
+  scanned-more high low byte more eh el few few′ eb =
       let shifted : high * 16 % word ≡ high * 16 = omega arith in
       let joined : byte ≡ high * 16 + low = eb ∙ rw shifted (or-shifted high 4 low (omega arith)) in
       let small : byte < 256 = omega arith in

@@ -1,17 +1,17 @@
-// The lines of a text: the value of a digit, and a cursor that reads one line, once, into numbers.
+// The lines of a text: the table of digit values, and a cursor that reads one line by it, once, into numbers.
 ghost use mathlib.Core.Path.{_≡_};
 ghost use Prim.Native.Nat.{_<_};
-ghost use lib.ListN.{length};
-ghost use Rattle.formats.specs.Digit.{digitValue, digitTable};
+ghost use lib.ListN.{length, getD};
+ghost use Rattle.formats.specs.Digit.{digitTable};
 ghost use Rattle.lines.specs.Read.{readAt};
 ghost use Rattle.lines.specs.Scanned.{Scanned, Stops};
 
-// What stands for a byte that is no digit: more than the values of two digits add up to.
+// What stands for a byte that is no digit, @ or 64: more than the values of two digits add up to.
 const NO_DIGIT: u8 = b'@';
 
-// The value of each byte as a digit, or the mark of a byte that is none. A row has sixteen entries: 0 to 9 stand in the fourth, A to F in the fifth and a to f in
-// the seventh.
-const DIGITS: [u8; 256] = *b"\
+// The value of each byte as a digit, or the mark of a byte that is none. A row has sixteen entries: 0 to 9 stand in the fourth row, A to F in the fifth
+// and a to f in the seventh, each in its own case.
+const DIGIT_VALUES: [u8; 256] = *b"\
     @@@@@@@@@@@@@@@@\
     @@@@@@@@@@@@@@@@\
     @@@@@@@@@@@@@@@@\
@@ -29,17 +29,16 @@ const DIGITS: [u8; 256] = *b"\
     @@@@@@@@@@@@@@@@\
     @@@@@@@@@@@@@@@@";
 
-// The table, made once and lent to all that reads by it: a constant is made anew wherever it stands.
-pub fn digit_values() -> [u8; 256]
+// The table, to be made once and lent to whatever reads by it: a constant is made anew wherever it stands.
+pub fn digit_table() -> [u8; 256]
     ensures { λ r. ⌜ r ≡ digitTable ⌝ }
 {
-    DIGITS
+    DIGIT_VALUES
 }
 
-// The value of a byte as a digit, 0 to 15, or the mark of a byte that is none.
+// What a table has for a byte. By the table of digits that is its value, 0 to 15, or the mark.
 fn digit_value(values: &[u8; 256], c: u8) -> u8
-    requires { ⌜ now values ≡ digitTable ⌝ }
-    ensures { λ r. ⌜ r ≡ digitValue c ⌝ }
+    ensures { λ r. ⌜ r ≡ getD (now (values .entry)) c 0 ⌝ }
 {
     values[c as usize]
 }
@@ -100,7 +99,7 @@ pub enum LineRead {
 
 impl Cursor {
     // The line at the cursor's place, by a table that is lent. It looks no further than the first character that is no digit.
-    pub fn read_by(self, values: &[u8; 256], text: &[u8]) -> LineRead
+    pub fn read_by_table(self, values: &[u8; 256], text: &[u8]) -> LineRead
         requires { ⌜ now values ≡ digitTable ⌝ }
         ensures { λ r. ⌜ r ≡ readAt (now (text .entry)) (self .at) ⌝ }
     {
@@ -131,7 +130,7 @@ impl Cursor {
     pub fn read(self, text: &[u8]) -> LineRead
         ensures { λ r. ⌜ r ≡ readAt (now (text .entry)) (self .at) ⌝ }
     {
-        let values = digit_values();
-        self.read_by(&values, text)
+        let values = digit_table();
+        self.read_by_table(&values, text)
     }
 }

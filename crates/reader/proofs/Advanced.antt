@@ -1,4 +1,5 @@
--- What `read_line` answers, by the line that it answers: the line at the place, with the next one where the reader then stands; or none. Assumes nothing.
+-- What `read_line` and `read_line_by_table` answer, by the line that is answered: the line at the place, with the next one where the reader then stands; or
+-- none. Assumes nothing.
 use mathlib.Core.List.{List}
 use mathlib.Core.Path.{_≡_, sym, ap, subst, _∙_}
 use Prim.Native.Nat.{ℕ}

@@ -1,5 +1,5 @@
 // The line reader (document 01, 'The ticket'): the ticket bytes, lent, and the start of the next line.
-// Each function over it is proved by hand; the work is left to `read_at` and `read_at_by`, on the bytes and the place.
+// Each function over it is proved by hand; the work is left to `read_at` and `read_at_by_table`, on the bytes and the place.
 use lines::Cursor;
 use lines::LineRead;
 ghost use mathlib.Core.Path.{_≡_};
@@ -38,12 +38,12 @@ fn read_at(text: &[u8], place: usize) -> LineRead
 }
 
 // The work, by a table of digit values that is lent.
-fn read_at_by(values: &[u8; 256], text: &[u8], place: usize) -> LineRead
+fn read_at_by_table(values: &[u8; 256], text: &[u8], place: usize) -> LineRead
     requires { ⌜ now values ≡ digitTable ⌝ }
     ensures { λ r. ⌜ r ≡ readAt (now (text .entry)) place ⌝ }
 {
     let cursor = Cursor { at: place };
-    cursor.read_by(values, text)
+    cursor.read_by_table(values, text)
 }
 
 // The reader of a text whose next line begins at a place.
@@ -78,12 +78,12 @@ pub fn read_line(text: &[u8], at: usize) -> Advance
 }
 
 // The same, by a table of digit values that is lent. The reader is a local, which carries the text and the start of the next line.
-pub fn read_line_by(values: &[u8; 256], text: &[u8], at: usize) -> Advance
+pub fn read_line_by_table(values: &[u8; 256], text: &[u8], at: usize) -> Advance
     requires { ⌜ now values ≡ digitTable ⌝ }
     ensures { λ ahead. ⌜ ahead ≡ advanceAt (now (text .entry)) at ⌝ }
 {
     let mut reader = new(text, at);
-    let line = read_at_by(values, reader.text, reader.at);
+    let line = read_at_by_table(values, reader.text, reader.at);
     let next_at = place_behind(line, reader.at);
     reader.at = next_at;
     Advance {

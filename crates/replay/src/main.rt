@@ -98,9 +98,9 @@ fn wide(x: u8) -> usize
     x as usize
 }
 
-// The byte that two digits stand for. What it gives of other characters no line has.
+// The byte that two digits stand for. (The mark of another character would count as 0; no line has one.)
 fn byte_of(high: u8, low: u8) -> u8 {
-    let values = lines::digit_values();
+    let values = lines::digit_table();
     values[high as usize] % 16 * 16 + values[low as usize] % 16
 }
 

@@ -92,7 +92,7 @@ pub fn read_rest(
         (tableOf n t (now (values .exit)) (now («crash_rounds» .exit)) (now (steps .exit)) (now (reached .exit)) (now (counts .exit)))
         ≡ readTicket (now (text .entry)) ⌝ }
 {
-    let digits = lines::digit_values();
+    let digit_table = lines::digit_table();
     let mut here = at;
     let mut place = Place::Proposals(0);
     let mut k: u16 = 2;
@@ -100,7 +100,7 @@ pub fn read_rest(
         if text.len() <= here {
             return at_end(place, k);
         }
-        let ahead = reader::read_line_by(&digits, text, here);
+        let ahead = reader::read_line_by_table(&digit_table, text, here);
         let line = ahead.line;
         let LineRead::Line {
             size,

@@ -56,7 +56,8 @@ pub fn rooms<M: Agreement>(comparison: &mut Comparison<M>) -> Result<(), Differe
 }
 
 /// Each of the 256 bytes at every place of a ticket, and each two of them as the
-/// digits of one byte: a single wrong entry of a table of digits shows in these.
+/// digits of one byte: a byte that is taken for another digit, or for none, shows
+/// in these, beside whatever other byte it is.
 pub fn bytes<M: Agreement>(comparison: &mut Comparison<M>) -> Result<(), Difference> {
     (0..=u8::MAX).try_for_each(|byte| {
         byte_at_every_place(comparison, byte)?;
@@ -243,7 +244,7 @@ mod tests {
     }
 
     #[test]
-    fn each_wrong_entry_is_seen() {
+    fn each_byte_taken_for_another_digit_or_for_none_is_seen() {
         for byte in 0..=u8::MAX {
             let right = if byte.is_ascii_hexdigit() { byte.to_ascii_uppercase() } else { b'G' };
             // The 16 values, and no digit.

@@ -1,10 +1,11 @@
 -- `lines::read_digits` meets its contract. Invariant: from `at` to `end` stand the digits of bytes of which head and tail are the words. Assumes nothing.
 use borrow.Author.Needs.{needs}
 use native.Mathlib.Omega.{arith}
-use mathlib.Core.Path.{refl, _∙_}
-use Prim.Native.Nat.{_+_, _-_}
+use mathlib.Core.Path.{_≡_, refl, _∙_}
+use Prim.Native.Nat.{ℕ, _+_, _-_, _<_}
 use lib.ListN.{length, getD}
-use Rattle.formats.proofs.Digit.{value-most}
+use Rattle.formats.specs.Digit.{digitValue}
+use Rattle.formats.proofs.Digit.{digit-entry, value-most, value-below-mark}
 use Rattle.lines.specs.Scanned.{Scanned}
 use Rattle.lines.proofs.Scanning.{scanned-none, scanned-more, stops-at-mark, stops-at-end}
 use Rattle.lines.proofs.read_digits.Statement.{statement}
@@ -44,18 +45,33 @@ first c = c .before .before
 abbrev turn : tie.After-digit-value2 Inv-loop μ-loop → tie.At-loop Inv-loop μ-loop
 turn c = first c .before .before .before
 
+-- The two characters, which are bytes, and what the table has for them.
+module _ (c : tie.After-digit-value2 Inv-loop μ-loop) where
+  abbrev char : ℕ → ℕ
+  char place = getD (turn c .before .before .args .text .now) place 0
+
+  abbrev end : ℕ
+  end = turn c .loop .end
+
+  high-byte : char end < 256
+  high-byte = omega (arith, first c .before .shared-slice-known2 .given end)
+
+  low-byte : char (end + 1) < 256
+  low-byte = omega (arith, c .before .shared-slice-known3 .given (end + 1))
+
+  high-value : first c .digit-value .result ≡ digitValue (char end)
+  high-value = first c .digit-value .ensures ∙ digit-entry _ _ (turn c .before .before .pre .0) high-byte
+
+  low-value : c .digit-value2 .result ≡ digitValue (char (end + 1))
+  low-value = c .digit-value2 .ensures ∙ digit-entry _ _ (turn c .before .before .pre .0) low-byte
+
 add-if1 : tie.Need-add-if1 Inv-loop μ-loop
-add-if1 c =
-    let text = turn c .before .before .args .text .now in
-    let end = turn c .loop .end in
-    let high = value-most (getD text end 0) in
-    let low = value-most (getD text (end + 1) 0) in
-    record { fits = omega (arith, first c .digit-value .ensures, c .digit-value2 .ensures) }
+add-if1 c = record { fits = omega (arith, high-value c, low-value c, value-most (char c (end c)) (high-byte c), value-most (char c (end c + 1)) (low-byte c)) }
 
 returns : tie.Need-returns Inv-loop μ-loop
 returns c =
     let both = c .before in
-    (turn both .loop .inv, stops-at-mark _ _ _ _ (first both .digit-value .ensures) (both .digit-value2 .ensures) (omega arith))
+    (turn both .loop .inv, stops-at-mark _ _ _ _ (high-value both) (low-value both) (omega arith))
 
 wide-requires : tie.Need-wide-requires Inv-loop μ-loop
 wide-requires c κs = search needs
@@ -72,10 +88,11 @@ loop-less c = omega arith
 loop-again : tie.Need-loop-again Inv-loop μ-loop
 loop-again c =
     let both = c .before .before .before in
-    let high = c .before .wide .ensures in
-    let low = c .wide2 .ensures in
-    scanned-more _ _ _ _ _ (turn both .loop .inv) _ _ _ (omega arith) (high ∙ first both .digit-value .ensures) (low ∙ both .digit-value2 .ensures)
-    (omega (arith, high, low)) refl
+    let high = c .before .wide .ensures ∙ high-value both in
+    let low = c .wide2 .ensures ∙ low-value both in
+    let few = value-below-mark (char both (end both)) (high-byte both) (omega (arith, high-value both, low-value both)) in
+    let few′ = value-below-mark (char both (end both + 1)) (low-byte both) (omega (arith, high-value both, low-value both)) in
+    scanned-more _ _ _ _ _ (turn both .loop .inv) _ _ _ (omega arith) high low (omega (arith, high)) (omega (arith, low)) refl
 
 returns-2 : tie.Need-returns-2 Inv-loop μ-loop
 returns-2 c = (c .before .loop .inv, stops-at-end _ _ (omega arith))

@@ -21,17 +21,17 @@ abbrev μ-loop : tie.MeasureT-loop
 μ-loop text n t at values₀ rounds₀ steps₀ reached₀ counts₀ digits here₀ place₀ k₀ values rounds steps reached counts here place k = length text - here
 
 -- The turn of the loop in which a line was looked for.
-abbrev turn : tie.After-read-line-by Inv-loop μ-loop → tie.At-loop Inv-loop μ-loop
+abbrev turn : tie.After-read-line-by-table Inv-loop μ-loop → tie.At-loop Inv-loop μ-loop
 turn c = c .before .before .before
 
 -- The line that was read.
 line-here : (c : tie.After-line Inv-loop μ-loop) → let read = c .before .before in
     LineAt (turn read .before .before .before .args .text .now) (turn read .loop .here) (c .line .given .0 .0) (c .line .given .0 .1 .0)
-    (c .line .given .0 .1 .1 .0) (record { at = read .read-line-by .result .at })
-line-here c = advance-line _ _ _ (c .before .before .read-line-by .ensures) _ _ _ _ (c .line .given .1)
+    (c .line .given .0 .1 .1 .0) (record { at = read .read-line-by-table .result .at })
+line-here c = advance-line _ _ _ (c .before .before .read-line-by-table .ensures) _ _ _ _ (c .line .given .1)
 
-digit-values-requires : tie.Need-digit-values-requires Inv-loop μ-loop
-digit-values-requires c κs = search needs
+digit-table-requires : tie.Need-digit-table-requires Inv-loop μ-loop
+digit-table-requires c κs = search needs
 
 loop-holds : tie.Need-loop-holds Inv-loop μ-loop
 loop-holds c = let start = c .before .before in reached-start _ _ _ _ (start .pre .0) _ (start .pre .1)
@@ -42,9 +42,9 @@ at-end-requires c κs = search needs
 returns : tie.Need-returns Inv-loop μ-loop
 returns c = reached-end _ _ _ _ _ (c .before .before .loop .inv) (omega arith) _ (c .at-end .ensures)
 
--- The table that is lent is the one of `digit_values`, which nothing in the loop changes.
-read-line-by-requires : tie.Need-read-line-by-requires Inv-loop μ-loop
-read-line-by-requires c κs = c .before .before .before .digit-values .ensures
+-- The table that is lent is the one of `digit_table`, which nothing in the loop changes.
+read-line-by-table-requires : tie.Need-read-line-by-table-requires Inv-loop μ-loop
+read-line-by-table-requires c κs = c .before .before .before .digit-table .ensures
 
 enum-known-line : tie.Need-enum-known-line Inv-loop μ-loop
 enum-known-line c = search needs
@@ -55,7 +55,7 @@ enum-told c = search needs
 returns-2 : tie.Need-returns-2 Inv-loop μ-loop
 returns-2 c =
     let answered = c .before .before in
-    reached-no-line _ _ _ _ _ (turn answered .loop .inv) (omega arith) (sym (c .enum-told .given .1) ∙ advance-read _ _ _ (answered .read-line-by .ensures))
+    reached-no-line _ _ _ _ _ (turn answered .loop .inv) (omega arith) (sym (c .enum-told .given .1) ∙ advance-read _ _ _ (answered .read-line-by-table .ensures))
 
 accept-line-requires : tie.Need-accept-line-requires Inv-loop μ-loop
 accept-line-requires c κs = turn (c .before .before .before) .loop .inv .places
@@ -149,11 +149,11 @@ read-rest-spec =
     (tie.spec
     Inv-loop
     μ-loop
-    digit-values-requires
+    digit-table-requires
     loop-holds
     at-end-requires
     returns
-    read-line-by-requires
+    read-line-by-table-requires
     enum-known-line
     enum-told
     returns-2

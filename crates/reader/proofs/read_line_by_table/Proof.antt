@@ -1,5 +1,6 @@
--- `read_line_by` meets its contract: a walk of its MIR, by hand. `new` makes a reader in a local, which holds the text and the place passed; `read_at_by` is
--- called on its fields, and `place_behind` on the line and its place; the reader is moved there, and its place is answered beside the line.
+-- `read_line_by_table` meets its contract: a walk of its MIR, by hand. `new` makes a reader in a local, which holds the text and the place passed;
+-- `read_at_by_table` is called on its fields, and `place_behind` on the line and its place; the reader is moved there, and its place is answered beside the
+-- line.
 -- A `&[u8; 256]` and a `&[u8]` are Copy: the callees take copies, and what values and text own is kept for the exit. What the reader owns is not needed.
 -- All that the proof knows of the three callees is that they meet their contracts. Assumes nothing.
 use mathlib.Core.Path.{_≡_, refl, ap, _∙_}
@@ -65,14 +66,14 @@ use Rattle.reader.proofs.place_behind as place-behind
 use Rattle.reader.proofs.place_behind.Symbol as place-behind-def
 use Rattle.reader.proofs.place_behind.Symbol.{name as #reader·place-behind}
 use Rattle.reader.proofs.place_behind.Met as place-behind-thm
-use Rattle.reader.proofs.read_at_by as read-at-by
-use Rattle.reader.proofs.read_at_by.Symbol as read-at-by-def
-use Rattle.reader.proofs.read_at_by.Symbol.{name as #reader·read-at-by}
-use Rattle.reader.proofs.read_at_by.Met as read-at-by-thm
-use Rattle.reader.proofs.read_line_by.Key.{name as #reader·read-line-by}
-use Rattle.reader.proofs.read_line_by as read-line-by
-use Rattle.reader.proofs.read_line_by.Statement as stated
-use Rattle.reader.proofs.read_line_by.Code as code
+use Rattle.reader.proofs.read_at_by_table as read-at-by-table
+use Rattle.reader.proofs.read_at_by_table.Symbol as read-at-by-table-def
+use Rattle.reader.proofs.read_at_by_table.Symbol.{name as #reader·read-at-by-table}
+use Rattle.reader.proofs.read_at_by_table.Met as read-at-by-table-thm
+use Rattle.reader.proofs.read_line_by_table.Key.{name as #reader·read-line-by-table}
+use Rattle.reader.proofs.read_line_by_table as read-line-by-table
+use Rattle.reader.proofs.read_line_by_table.Statement as stated
+use Rattle.reader.proofs.read_line_by_table.Code as code
 
 -- `[u8; 256]`, as the referent's place in the signature, and its type
 abbrev table : Slot 2
@@ -81,13 +82,13 @@ table = ArrayOf (plain (λ _. u8)) (λ _. tt) 256
 abbrev Table : RattleType
 Table = Array u8 256
 
-abbrev stayed : Stays (read-line-by.ended .signature .params) (read-line-by.ended .kept)
+abbrev stayed : Stays (read-line-by-table.ended .signature .params) (read-line-by-table.ended .kept)
 stayed = (stay-none-ref (0 ∷ []) tt table yes, (stay-none-slice (1 ∷ []) tt (plain (λ _. u8)) yes, (stay-none (λ _. usize) yes, tt)))
 
 module _ {M : Type 1} (𝓤 : URA M) (H : Heap 𝓤) (A : Atoms 𝓤) (mem : Memory → SProp 𝓤) (run : Routine → Fun 𝓤) where
   -- the contract that the proof cites, beside those of `new` and `place_behind`
   abbrev ReadAt : Contract 𝓤
-  ReadAt = tripleOf 𝓤 H A read-at-by.signature (read-at-by.spec 𝓤 H A mem run)
+  ReadAt = tripleOf 𝓤 H A read-at-by-table.signature (read-at-by-table.spec 𝓤 H A mem run)
 
 module _ {M : Type 1} (𝓤 : URA M) (H : Heap 𝓤) (A : Atoms 𝓤) (W : Given 𝓤 H A) (mem : Memory → SProp 𝓤) (run : Routine → Fun 𝓤) (κ κ′ : Lft) (q q′ : Share)
     (values text : RefT (List ℕ)) (place : ℕ) (fits : place < 2 ^ 64) where
@@ -113,11 +114,11 @@ module _ {M : Type 1} (𝓤 : URA M) (H : Heap 𝓤) (A : Atoms 𝓤) (W : Given
   found = readAt (now text) place
 
   -- what is passed, and passed on to the callees
-  abbrev passed : Vals read-line-by.signature (κ, (κ′, tt))
+  abbrev passed : Vals read-line-by-table.signature (κ, (κ′, tt))
   passed = (ptr-vals values, (v ∷ [], (vint w64 place ∷ [], tt)))
 
   abbrev Post : Val → SProp 𝓤
-  Post = walkOf 𝓤 H A read-line-by.ended stayed (read-line-by.clauses 𝓤 H A mem run) .post
+  Post = walkOf 𝓤 H A read-line-by-table.ended stayed (read-line-by-table.clauses 𝓤 H A mem run) .post
       (((κ, (κ′, tt)), (q, (q′, tt)), tt, (values, (text, (place, tt))), passed), tt)
 
   abbrev OwnTable : Fml
@@ -132,12 +133,12 @@ module _ {M : Type 1} (𝓤 : URA M) (H : Heap 𝓤) (A : Atoms 𝓤) (W : Given
   is-begun : (reader : LineReader) → (reader .text ≡ text) × (reader .at ≡ place) → reader ≡ begun
   is-begun reader e = λ i. record { text = e .0 i; at = e .1 i }
 
-  -- the call of `read_at_by`: both tokens go to it, and copies of what values and text own
+  -- the call of `read_at_by_table`: both tokens go to it, and copies of what values and text own
   abbrev to-read : ReadAt 𝓤 H A mem run .Ghost
   to-read = (((κ, (κ′, tt)), (q, (q′, tt)), tt, (values, (text, (place, tt))), passed), tt)
 
   read-asked : now values ≡ digitTable
-      → ent 𝓤 (onEntry 𝓤 H A read-at-by.signature (κ, (κ′, tt)) (q, (q′, tt)) (values, (text, (place, tt))) passed) (ReadAt 𝓤 H A mem run .pre to-read)
+      → ent 𝓤 (onEntry 𝓤 H A read-at-by-table.signature (κ, (κ′, tt)) (q, (q′, tt)) (values, (text, (place, tt))) passed) (ReadAt 𝓤 H A mem run .pre to-read)
   read-asked t =
       qed W ((‵ (flft κ q) ⊛ ‵ (flft κ′ q′) ⊛ ‵ ftrue) ∷
       ‵ (owns (ShrRef (named 0) κ Table ∷ ShrSlice (named 1) κ′ u8 ∷ usize ∷ []) (values, (text, (place, tt))) passed) ∷ []) ∵ says ! t $ frame ! $ done !
@@ -155,8 +156,8 @@ module _ {M : Type 1} (𝓤 : URA M) (H : Heap 𝓤) (A : Atoms 𝓤) (W : Given
       frame ! $ move ! (1 ∷ []) $ frame ! $ done !
 
   read-said : (line : LineRead)
-      → ent 𝓤 (ensured 𝓤 H A read-at-by.ended (read-at-by.clauses 𝓤 H A mem run) (κ, (κ′, tt)) (values, (text, (place, tt))) tt line) (fact 𝓤 (line ≡ found))
-  read-said line = exE 𝓤 _ (λ ws. snd∗ 𝓤 (sem 𝓤 H A (lasts read-at-by.ended (κ, (κ′, tt)) (values, (text, (place, tt))) ws)) (fact 𝓤 (line ≡ found)))
+      → ent 𝓤 (ensured 𝓤 H A read-at-by-table.ended (read-at-by-table.clauses 𝓤 H A mem run) (κ, (κ′, tt)) (values, (text, (place, tt))) tt line) (fact 𝓤 (line ≡ found))
+  read-said line = exE 𝓤 _ (λ ws. snd∗ 𝓤 (sem 𝓤 H A (lasts read-at-by-table.ended (κ, (κ′, tt)) (values, (text, (place, tt))) ws)) (fact 𝓤 (line ≡ found)))
 
   is-answer : (line : LineRead) (n : ℕ) → line ≡ found → n ≡ placeBehind line place → answer line n ≡ advanceAt (now text) place
   unfolding advanceAt
@@ -168,17 +169,17 @@ module _ {M : Type 1} (𝓤 : URA M) (H : Heap 𝓤) (A : Atoms 𝓤) (W : Given
   exits line u n e =
       qed W (‵ (Advance.the-row .own (answer line n) (answered u n ∷ [])) ∷ (‵ (flft κ q) ⊛ ‵ (flft κ′ q′) ⊛ ‵ ftrue) ∷ ‵ OwnTable ∷ ‵ Own ∷ []) ∵
       suffices ! _
-      (ends-at 𝓤 H A read-line-by.ended stayed (read-line-by.clauses 𝓤 H A mem run) W
+      (ends-at 𝓤 H A read-line-by-table.ended stayed (read-line-by-table.clauses 𝓤 H A mem run) W
       (((κ, (κ′, tt)), (q, (q′, tt)), tt, (values, (text, (place, tt))), passed), tt)
       (answered u n) (answer line n) (tt, (tt, (tt, tt))) (tt, (tt, (tt, tt)))) $ says ! e $
       move ! (1 ∷ []) $ frame ! $ nothing ! $ owned ! usize (Is usize) (uint-makes 𝓤 H A W w64) place _ (refl, fits) $ fjoin ! $
       move ! (3 ∷ 0 ∷ []) $ fjoin ! $ move ! (2 ∷ 0 ∷ []) $ fjoin ! $ frame ! $ done !
 
   module _ (C : Calls 𝓤 H) (Λ : Loops 𝓤 H) (fm : FmC 𝓤 H (W .laws) C) (known-new : Triple 𝓤 (C #reader·new) (New 𝓤 H A mem run))
-      (known-read : Triple 𝓤 (C #reader·read-at-by) (ReadAt 𝓤 H A mem run))
+      (known-read : Triple 𝓤 (C #reader·read-at-by-table) (ReadAt 𝓤 H A mem run))
       (known-behind : Triple 𝓤 (C #reader·place-behind) (PlaceBehind 𝓤 H A mem run)) where
     walk : Is (ShrSlice (named 1) κ′ u8) text (v ∷ []) → now values ≡ digitTable
-        → ent 𝓤 (onEntry 𝓤 H A read-line-by.signature (κ, (κ′, tt)) (q, (q′, tt)) (values, (text, (place, tt))) passed)
+        → ent 𝓤 (onEntry 𝓤 H A read-line-by-table.signature (κ, (κ′, tt)) (q, (q′, tt)) (values, (text, (place, tt))) passed)
         (WpFn 𝓤 H C Λ code.function (vptr (values .ptr .0) (values .ptr .1) ∷ v ∷ vint w64 place ∷ []) Post)
     walk p t =
         qed W ((‵ (flft κ q) ⊛ ‵ (flft κ′ q′) ⊛ ‵ ftrue) ∷
@@ -216,7 +217,7 @@ module _ {M : Type 1} (𝓤 : URA M) (H : Heap 𝓤) (A : Atoms 𝓤) (W : Given
         (and-then ! (load ! (from ! (stop !)) (look ! 21 refl)) (and-then ! (load ! (from ! (stop !)) (look ! 9 refl))
         (and-then ! (load ! (from ! (stop !)) (look ! 7 refl)) (no-more !)))) (λ w.
         use1 W (later (some (λ (line : LineRead). ((‵ (flft κ q) ⊛ ‵ (flft κ′ q′) ⊛ ‵ ftrue) ⊛ ‵ (OwnLine line w))
-        ⊛ raw (ensured 𝓤 H A read-at-by.ended (read-at-by.clauses 𝓤 H A mem run) (κ, (κ′, tt)) (values, (text, (place, tt))) tt line)))) (id⊢ 𝓤 _) $
+        ⊛ raw (ensured 𝓤 H A read-at-by-table.ended (read-at-by-table.clauses 𝓤 H A mem run) (κ, (κ′, tt)) (values, (text, (place, tt))) tt line)))) (id⊢ 𝓤 _) $
         await ! tt $ pick ! (λ line. split ! $ move ! (1 ∷ []) $ use1 W (raw (fact 𝓤 (line ≡ found))) (read-said line) $
         heard ! (line ≡ found) (λ f. split ! $ move ! (1 ∷ []) $
         -- [the line; the tokens; what values owns; what text owns; room for _10; …; _9; …; _8; …; _7; …; room for _6; …; room for _5; …; _4; …; _3; …]
@@ -254,37 +255,37 @@ module _ {M : Type 1} (𝓤 : URA M) (H : Heap 𝓤) (A : Atoms 𝓤) (W : Given
         by ! (exits line w n (is-answer line n f g))))))))))))))))))))))))))
 
 module _ {M : Type 1} (𝓤 : URA M) (H : Heap 𝓤) (A : Atoms 𝓤) (W : Given 𝓤 H A) (mem : Memory → SProp 𝓤) (run : Routine → Fun 𝓤) where
-  read-line-by-walks : (C : Calls 𝓤 H) (Λ : Loops 𝓤 H) → FmC 𝓤 H (W .laws) C → Triple 𝓤 (C #reader·new) (New 𝓤 H A mem run)
-      → Triple 𝓤 (C #reader·read-at-by) (ReadAt 𝓤 H A mem run) → Triple 𝓤 (C #reader·place-behind) (PlaceBehind 𝓤 H A mem run)
-      → Walks 𝓤 H A read-line-by.ended stayed (WpFn 𝓤 H C Λ code.function) (read-line-by.clauses 𝓤 H A mem run)
-  read-line-by-walks C Λ fm known-new known-read known-behind =
-      walked 𝓤 H A read-line-by.ended stayed (read-line-by.clauses 𝓤 H A mem run) (WpFn 𝓤 H C Λ code.function)
+  read-line-by-table-walks : (C : Calls 𝓤 H) (Λ : Loops 𝓤 H) → FmC 𝓤 H (W .laws) C → Triple 𝓤 (C #reader·new) (New 𝓤 H A mem run)
+      → Triple 𝓤 (C #reader·read-at-by-table) (ReadAt 𝓤 H A mem run) → Triple 𝓤 (C #reader·place-behind) (PlaceBehind 𝓤 H A mem run)
+      → Walks 𝓤 H A read-line-by-table.ended stayed (WpFn 𝓤 H C Λ code.function) (read-line-by-table.clauses 𝓤 H A mem run)
+  read-line-by-table-walks C Λ fm known-new known-read known-behind =
+      walked 𝓤 H A read-line-by-table.ended stayed (read-line-by-table.clauses 𝓤 H A mem run) (WpFn 𝓤 H C Λ code.function)
       (λ κs. (ptr-vals, (slice-vals, (uint-vals w64, tt))))
       (λ κs. (shr-tells (named 0) (κs .0) Table, (shr-slice-tells (named 1) (κs .1 .0) u8, (uint-tells w64, tt))))
       (λ κs qs bounds a g are. needs 𝓤 _ _
       (walk 𝓤 H A W mem run (κs .0) (κs .1 .0) (qs .0) (qs .1 .0) (a .0) (a .1 .0) (a .1 .1 .0) (are .1 .1 .0 .1) C Λ fm known-new known-read known-behind
       (are .1 .0)))
 
-read-line-by-meets : {M : Type 1} (𝓤 : URA M) (H : Heap 𝓤) (A : Atoms 𝓤) (W : Given 𝓤 H A) (mem : Memory → SProp 𝓤) (run : Routine → Fun 𝓤) (𝓣 : Tables 𝓤 H)
-    → Triple 𝓤 (𝓣 .C #reader·new) (New 𝓤 H A mem run) → Triple 𝓤 (𝓣 .C #reader·read-at-by) (ReadAt 𝓤 H A mem run)
+read-line-by-table-meets : {M : Type 1} (𝓤 : URA M) (H : Heap 𝓤) (A : Atoms 𝓤) (W : Given 𝓤 H A) (mem : Memory → SProp 𝓤) (run : Routine → Fun 𝓤) (𝓣 : Tables 𝓤 H)
+    → Triple 𝓤 (𝓣 .C #reader·new) (New 𝓤 H A mem run) → Triple 𝓤 (𝓣 .C #reader·read-at-by-table) (ReadAt 𝓤 H A mem run)
     → Triple 𝓤 (𝓣 .C #reader·place-behind) (PlaceBehind 𝓤 H A mem run)
-    → Meets 𝓤 H A read-line-by.signature (WpFn 𝓤 H (𝓣 .C) (𝓣 .Λ) code.function) (read-line-by.spec 𝓤 H A mem run)
-read-line-by-meets 𝓤 H A W mem run 𝓣 known-new known-read known-behind =
-    walk-meets 𝓤 H A read-line-by.ended stayed W (
+    → Meets 𝓤 H A read-line-by-table.signature (WpFn 𝓤 H (𝓣 .C) (𝓣 .Λ) code.function) (read-line-by-table.spec 𝓤 H A mem run)
+read-line-by-table-meets 𝓤 H A W mem run 𝓣 known-new known-read known-behind =
+    walk-meets 𝓤 H A read-line-by-table.ended stayed W (
       goes-none-ref 𝓤 H A W 2 (0 ∷ []) tt table yes,
       (goes-none-slice 𝓤 H A W 2 (1 ∷ []) tt (plain (λ _. u8)) yes, (goes-none 𝓤 H A W 2 (λ _. usize) yes (λ κs x f. refl), tt)),
     )
-    (read-line-by.clauses 𝓤 H A mem run) (WpFn 𝓤 H (𝓣 .C) (𝓣 .Λ) code.function) (WpFn-mono 𝓤 H (W .laws) 𝓣 code.function)
-    (read-line-by-walks 𝓤 H A W mem run (𝓣 .C) (𝓣 .Λ) (fmOf 𝓤 H (W .laws) 𝓣) known-new known-read known-behind)
+    (read-line-by-table.clauses 𝓤 H A mem run) (WpFn 𝓤 H (𝓣 .C) (𝓣 .Λ) code.function) (WpFn-mono 𝓤 H (W .laws) 𝓣 code.function)
+    (read-line-by-table-walks 𝓤 H A W mem run (𝓣 .C) (𝓣 .Λ) (fmOf 𝓤 H (W .laws) 𝓣) known-new known-read known-behind)
 
-pub read-line-by-spec : {M : Type 1} → stated.statement M
+pub read-line-by-table-spec : {M : Type 1} → stated.statement M
 unfolding code.routine tablesOf
-read-line-by-spec 𝓤 H 𝓜 𝓖 𝓡 =
-    entered 𝓤 H (tripleOf 𝓤 H (𝓖 .A) read-line-by.signature (read-line-by.spec 𝓤 H (𝓖 .A) (𝓜 .mem) (𝓡 .run)))
-    (tables 𝓤 H 𝓜 𝓡 code.env .C) (tables 𝓤 H 𝓜 𝓡 code.env .Λ) #reader·read-line-by code.function (code.unfolded 𝓤 H 𝓜 𝓡)
-    (read-line-by-meets 𝓤 H (𝓖 .A) (givenOf 𝓤 H 𝓜 𝓖) (𝓜 .mem) (𝓡 .run) (tablesOf 𝓤 H 𝓜 (tables 𝓤 H 𝓜 𝓡 code.env))
+read-line-by-table-spec 𝓤 H 𝓜 𝓖 𝓡 =
+    entered 𝓤 H (tripleOf 𝓤 H (𝓖 .A) read-line-by-table.signature (read-line-by-table.spec 𝓤 H (𝓖 .A) (𝓜 .mem) (𝓡 .run)))
+    (tables 𝓤 H 𝓜 𝓡 code.env .C) (tables 𝓤 H 𝓜 𝓡 code.env .Λ) #reader·read-line-by-table code.function (code.unfolded 𝓤 H 𝓜 𝓡)
+    (read-line-by-table-meets 𝓤 H (𝓖 .A) (givenOf 𝓤 H 𝓜 𝓖) (𝓜 .mem) (𝓡 .run) (tablesOf 𝓤 H 𝓜 (tables 𝓤 H 𝓜 𝓡 code.env))
     (cited 𝓤 H (New 𝓤 H (𝓖 .A) (𝓜 .mem) (𝓡 .run)) 𝓜 𝓡 code.env #reader·new new-def.routine code.calls-reader·new (new-thm.met 𝓤 H 𝓜 𝓖 𝓡))
-    (cited 𝓤 H (ReadAt 𝓤 H (𝓖 .A) (𝓜 .mem) (𝓡 .run)) 𝓜 𝓡 code.env #reader·read-at-by read-at-by-def.routine code.calls-reader·read-at-by
-    (read-at-by-thm.met 𝓤 H 𝓜 𝓖 𝓡))
+    (cited 𝓤 H (ReadAt 𝓤 H (𝓖 .A) (𝓜 .mem) (𝓡 .run)) 𝓜 𝓡 code.env #reader·read-at-by-table read-at-by-table-def.routine code.calls-reader·read-at-by-table
+    (read-at-by-table-thm.met 𝓤 H 𝓜 𝓖 𝓡))
     (cited 𝓤 H (PlaceBehind 𝓤 H (𝓖 .A) (𝓜 .mem) (𝓡 .run)) 𝓜 𝓡 code.env #reader·place-behind place-behind-def.routine code.calls-reader·place-behind
     (place-behind-thm.met 𝓤 H 𝓜 𝓖 𝓡)))

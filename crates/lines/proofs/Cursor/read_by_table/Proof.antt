@@ -1,10 +1,10 @@
--- `lines::Cursor::read_by` meets its contract: each return is one thing that may stand behind the digits. Assumes nothing.
+-- `lines::Cursor::read_by_table` meets its contract: each return is one thing that may stand behind the digits. Assumes nothing.
 use borrow.Author.Needs.{needs}
 use native.Mathlib.Omega.{arith}
 use mathlib.Core.Path.{sym}
 use Rattle.lines.proofs.Answer.{answer-past, answer-unclosed, answer-other, answer-empty, answer-line}
-use Rattle.lines.proofs.Cursor.read_by.Statement.{statement}
-use Rattle.lines.proofs.Cursor.read_by.Tie as tie
+use Rattle.lines.proofs.Cursor.read_by_table.Statement.{statement}
+use Rattle.lines.proofs.Cursor.read_by_table.Tie as tie
 
 returns : tie.Need-returns
 returns c = sym (answer-past _ _ (omega arith))
@@ -35,8 +35,8 @@ add-t12 c = search needs
 returns-5 : tie.Need-returns-5
 returns-5 c = sym (answer-line _ _ _ _ _ (c .before .before .before .before .read-digits .ensures .0) (omega arith) (omega arith) (c .if4 .left))
 
-pub read-by-spec : {M : Type 1} → statement M
-read-by-spec =
+pub read-by-table-spec : {M : Type 1} → statement M
+read-by-table-spec =
     tie.close
     (tie.spec
     returns
