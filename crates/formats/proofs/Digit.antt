@@ -14,7 +14,7 @@ use Rattle.general.proofs.Table.{entry-at, entries-same}
 use Rattle.formats.specs.Digit.{noDigit, digitValue, isDigit, digitTable}
 use Rattle.formats.specs.HexText.{digitOf}
 
--- The rule of the table, at each entry.
+-- What is shown of the whole table, at each entry.
 pub digit-entry : (values : List ℕ) (c : ℕ) → values ≡ digitTable → c < 256 → getD values c 0 ≡ digitValue c
 unfolding digitTable
 digit-entry values c e h = entry-at 256 c 0 h digitValue values e

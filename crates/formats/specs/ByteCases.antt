@@ -16,10 +16,10 @@ numbers zero first = []
 numbers (suc count) first = first ∷ numbers count (suc first)
 
 pub record ByteCases : Type 0 where
-  -- the rule of the table (document 02, Paper 3), in one test: 0-9, A-F and a-f are digits, of these values, and the other 234 bytes have the mark
+  -- the table of digit values (document 02, Paper 3), written out: 0-9, A-F and a-f are digits, of these values, and the other 234 bytes have the mark
   pub digits : digitTable
       ≡ replicate 48 noDigit ++ numbers 10 0 ++ replicate 7 noDigit ++ numbers 6 10 ++ replicate 26 noDigit ++ numbers 6 10 ++ replicate 153 noDigit
-  -- and the mark is no digit's value
+  -- and the mark is above 15
   pub mark : 15 < noDigit
   -- 0A alone closes a line: behind a header of six digits each other byte is refused there, and after 0A the text is over at line 2
   pub closing : tabulate (λ (c : ℕ). verdictOf (readTicket (ascii "010402" ++ (c ∷ [])))) 256

@@ -20,6 +20,6 @@ digitValue c =
 unfoldable pub isDigit : ℕ → Bool
 isDigit c = leb (digitValue c) 15
 
--- The table of digit values (document 02, Paper 3: "a table of 256 entries indexed by the byte"). ByteCases has its rule, in one test.
+-- The table of digit values (document 02, Paper 3: "a table of 256 entries indexed by the byte"). ByteCases has it written out.
 unfoldable pub digitTable : List ℕ
 digitTable = tabulate digitValue 256

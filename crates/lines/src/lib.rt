@@ -9,8 +9,8 @@ ghost use Rattle.lines.specs.Scanned.{Scanned, Stops};
 // What stands for a byte that is no digit, @ or 64: more than the values of two digits add up to.
 const NO_DIGIT: u8 = b'@';
 
-// The value of each byte as a digit, or the mark of a byte that is none. A row has sixteen entries: 0 to 9 stand in the fourth row, A to F in the fifth
-// and a to f in the seventh, each in its own case.
+// The value of each byte as a digit, or the mark of a byte that is none. A row has sixteen entries: 0 to 9 have theirs in the fourth row, A to F in the
+// fifth, written \x0A to \x0F, and a to f in the seventh, written \x0a to \x0f.
 const DIGIT_VALUES: [u8; 256] = *b"\
     @@@@@@@@@@@@@@@@\
     @@@@@@@@@@@@@@@@\
@@ -57,7 +57,7 @@ struct Digits {
     tail: u64,
 }
 
-// Reads the digits from `at` on, two at a time; one test of their sum is a test of both.
+// Reads the digits from `at` on, where a character stands, two at a time; one test of their sum is a test of both.
 fn read_digits(values: &[u8; 256], text: &[u8], at: usize) -> Digits
     requires { ⌜ now values ≡ digitTable ⌝ }
     requires { ⌜ at < length (now text) ⌝ }
@@ -98,7 +98,7 @@ pub enum LineRead {
 }
 
 impl Cursor {
-    // The line at the cursor's place, by a table that is lent. It looks no further than the first character that is no digit.
+    // The line at the cursor's place, by a table that is lent. It looks at most one character behind the first that is no digit.
     pub fn read_by_table(self, values: &[u8; 256], text: &[u8]) -> LineRead
         requires { ⌜ now values ≡ digitTable ⌝ }
         ensures { λ r. ⌜ r ≡ readAt (now (text .entry)) (self .at) ⌝ }

@@ -92,6 +92,7 @@ module _ {M : Type 1} (𝓤 : URA M) (H : Heap 𝓤) (A : Atoms 𝓤) (W : Given
 
   module _ (mem : Memory → SProp 𝓤) (run : Routine → Fun 𝓤) where
     module _ (κ : Lft) (q : Share) (text : RefT (List ℕ)) (place : ℕ) where
+      -- what a slice owns does not depend on the name of its lifetime in a signature
       abbrev Own : Fml
       Own = ShrSlice (named 0) κ u8 .own text (slice-vals text)
 

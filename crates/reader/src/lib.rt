@@ -77,7 +77,8 @@ pub fn read_line(text: &[u8], at: usize) -> Advance
     }
 }
 
-// The same, by a table of digit values that is lent. The reader is a local, which carries the text and the start of the next line.
+// The same, by a table of digit values that is lent. (`next` has one made for its line; so the reader, a local that carries the text and the start of the
+// next line, is moved here.)
 pub fn read_line_by_table(values: &[u8; 256], text: &[u8], at: usize) -> Advance
     requires { ⌜ now values ≡ digitTable ⌝ }
     ensures { λ ahead. ⌜ ahead ≡ advanceAt (now (text .entry)) at ⌝ }

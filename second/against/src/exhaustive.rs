@@ -194,8 +194,8 @@ mod tests {
     use super::*;
     use second::Simulator;
 
-    /// The second implementation with one wrong entry in its table of digits:
-    /// it takes a byte for another.
+    /// The second implementation with one mistake about digits: it takes a byte
+    /// for another.
     struct Misreads {
         second: Simulator,
         byte: u8,

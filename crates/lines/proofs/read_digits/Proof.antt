@@ -38,7 +38,7 @@ shared-slice-read-digit-value-2 c = omega arith
 digit-value-requires-2 : tie.Need-digit-value-requires-2 Inv-loop μ-loop
 digit-value-requires-2 c κs = search needs
 
--- Where both characters have been looked up: where the first was, and where that turn of the loop began.
+-- From where both characters have been looked up back to where the first had been, and to where that turn of the loop began.
 abbrev first : tie.After-digit-value2 Inv-loop μ-loop → tie.After-digit-value Inv-loop μ-loop
 first c = c .before .before
 
@@ -65,6 +65,7 @@ module _ (c : tie.After-digit-value2 Inv-loop μ-loop) where
   low-value : c .digit-value2 .result ≡ digitValue (char (end + 1))
   low-value = c .digit-value2 .ensures ∙ digit-entry _ _ (turn c .before .before .pre .0) low-byte
 
+-- No entry is above the mark, so two add up to a byte.
 add-if1 : tie.Need-add-if1 Inv-loop μ-loop
 add-if1 c = record { fits = omega (arith, high-value c, low-value c, value-most (char c (end c)) (high-byte c), value-most (char c (end c + 1)) (low-byte c)) }
 
@@ -85,6 +86,7 @@ add-end c = omega arith
 loop-less : tie.Need-loop-less Inv-loop μ-loop
 loop-less c = omega arith
 
+-- A sum below the mark is of two digits.
 loop-again : tie.Need-loop-again Inv-loop μ-loop
 loop-again c =
     let both = c .before .before .before in

@@ -1,7 +1,7 @@
 -- `next` meets its contract: a walk of its MIR, by hand. The borrow is opened, `read_at` is called on the slice and the number that the struct holds,
 -- `place_behind` on its answer and that number; what that gives is stored in the struct, and the borrow is closed at the struct with the new number. The line
--- of the answer is the result. All that the proof knows of the two callees is that they meet their contracts. The struct is Copy: what text owns goes to the callee from a copy.
--- Assumes nothing.
+-- of the answer is the result. All that the proof knows of the two callees is that they meet their contracts. The struct is Copy: what text owns goes to
+-- `read_at` from a copy. Assumes nothing.
 use mathlib.Core.Path.{_≡_, refl, ap}
 use Prim.Native.Nat.{ℕ, _<_, _^_}
 use mathlib.Core.List.{List, [], _∷_}

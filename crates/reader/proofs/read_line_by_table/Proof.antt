@@ -113,7 +113,7 @@ module _ {M : Type 1} (𝓤 : URA M) (H : Heap 𝓤) (A : Atoms 𝓤) (W : Given
   abbrev found : LineRead
   found = readAt (now text) place
 
-  -- what is passed, and passed on to the callees
+  -- what is passed, and passed on to `read_at_by_table`
   abbrev passed : Vals read-line-by-table.signature (κ, (κ′, tt))
   passed = (ptr-vals values, (v ∷ [], (vint w64 place ∷ [], tt)))
 
