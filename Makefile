@@ -1,4 +1,4 @@
-# make                        prove every crate, build the programs, the C library and the example host
+# make                        prove every crate, build the programs, the C library and the examples
 # make run TICKET=FILE        run one ticket
 # make explain TICKET=FILE    what it is answered, in words: the run round by round, or why it is refused
 # make picture TICKET=FILE    the same as a picture, in target/pictures/ or PICTURE=FILE
@@ -6,7 +6,7 @@
 # make vectors                compute the definitions on every vector of tests/vectors/
 # make vectors-part           the same on a part that has every kind of vector
 # make library-test           the compiled library on every vector of tests/vectors/
-# make host-test              simulate and the example host on every ticket of tests/vectors/, and on what cannot be read or written
+# make host-test              simulate and the examples on every ticket of tests/vectors/, and on what cannot be read or written
 # make interface-test         the header's prototypes against the library's, and docs/FORMATS.md against the header
 # make show-test              explain and picture on every ticket of tests/vectors/
 # make second-test            the second implementation's own tests
@@ -38,7 +38,7 @@ COVERAGE_FLAGS = -Cpasses=sancov-module -Cllvm-args=-sanitizer-coverage-level=3 
 .PHONY: all help prove ticket-named simulate-built run explain picture test vectors vectors-part unused second-test wrong-worlds library-test host-test \
   interface-test show-test compare compare-short bench fuzz pictures install
 
-all: prove $(LIBRARY) target/bin/host
+all: prove $(LIBRARY) target/bin/host target/bin/frames
 
 help:
 	@sed -n '/^#/!q; s/^# //p' Makefile
@@ -82,20 +82,20 @@ $(LIBRARY): $(SOURCES)
 	rt staticlib agreement
 	@touch $@
 
-target/bin/host: examples/host.c include/agreement.h $(LIBRARY)
+target/bin/%: examples/%.c include/agreement.h $(LIBRARY)
 	mkdir -p target/bin
-	$(CC) $(CFLAGS_STRICT) examples/host.c $(LIBRARY) -o $@
+	$(CC) $(CFLAGS_STRICT) $< $(LIBRARY) -o $@
 
-target/bin/host-sanitized: examples/host.c include/agreement.h $(LIBRARY)
+target/bin/%-sanitized: examples/%.c include/agreement.h $(LIBRARY)
 	mkdir -p target/bin
-	$(CC) $(CFLAGS_STRICT) $(SANITIZERS) examples/host.c $(LIBRARY) -o $@
+	$(CC) $(CFLAGS_STRICT) $(SANITIZERS) $< $(LIBRARY) -o $@
 
 target/bin/calls: tests/calls.c include/agreement.h $(LIBRARY)
 	mkdir -p target/bin
 	$(CC) $(CFLAGS_STRICT) $(SANITIZERS) tests/calls.c $(LIBRARY) -o $@
 
-host-test: target/bin/host target/bin/host-sanitized target/bin/simulate
-	tools/host-test target/bin/host-sanitized target/bin/simulate
+host-test: target/bin/host target/bin/host-sanitized target/bin/frames target/bin/frames-sanitized target/bin/simulate
+	tools/host-test target/bin/host-sanitized target/bin/frames-sanitized target/bin/simulate
 
 library-test: target/bin/calls
 	tools/library-test target/bin/calls

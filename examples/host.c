@@ -4,8 +4,9 @@
  * It reads a ticket on standard input, asks the library whether it is accepted, and then does what desks on a switch
  * do: it starts a part for each process, and in each round has every part that is up speak, carries the frames that the
  * ticket lets through, and has every part close on what it heard (agreement.h, THE HOST'S OBLIGATIONS: the switch is in
- * memory, so that a frame has left and arrived at once). It prints the process lines: what `simulate` prints without its
- * last line. A ticket that is refused goes to standard error with its number and line, and exit status 1.
+ * memory, so that a frame has left and arrived at once). It counts what leaves each part and prints the process lines: what
+ * `simulate` prints without its last line. A ticket that is refused goes to standard error with its number and line, and
+ * exit status 1.
  */
 #include <stdbool.h>
 #include <stdio.h>
@@ -25,10 +26,10 @@ struct ticket {
     struct fault fault[UC_MOST_PROCESSES + 1];
 };
 
-/* A process part: its nine bytes, and the round in which it crashed, 0 while it is up. */
+/* A process part: its nine bytes, the round in which it crashed, 0 while it is up, and the frames that have left it. */
 struct part {
     uint8_t state[UC_STATE_BYTES];
-    unsigned crashed;
+    unsigned crashed, data, commits;
 };
 
 /* Letters are of either case. */
@@ -89,6 +90,18 @@ static size_t let_through(const struct ticket *ticket, unsigned q, unsigned r, u
     }
 }
 
+/* Counts what leaves process q in round r, in which it spoke: frames to crashed and decided processes too. */
+static void count_sent(const struct ticket *ticket, struct part *part, unsigned q, unsigned r)
+{
+    for (unsigned p = q + 1; p <= ticket->n; p++) {
+        size_t reach = let_through(ticket, q, r, p);
+        if (reach >= UC_DATA_BYTES)
+            part[q].data++;
+        if (reach == UC_SPEECH_BYTES)
+            part[q].commits++;
+    }
+}
+
 /* Whether a part is called in a round: it is up, and has not decided. */
 static bool takes_part(const struct part *part)
 {
@@ -116,6 +129,8 @@ static bool run_round(const struct ticket *ticket, struct part *part, unsigned r
         if (refused("uc_speak", q, uc_speak_refusal(answer)))
             return false;
         yielded[q] = (size_t)answer;
+        if (yielded[q])
+            count_sent(ticket, part, q, r);
     }
     for (unsigned p = 1; p <= ticket->n; p++) {
         if (!takes_part(&part[p]))
@@ -138,9 +153,10 @@ static bool run_round(const struct ticket *ticket, struct part *part, unsigned r
     return true;
 }
 
-static void print_process_line(unsigned p, unsigned end, unsigned round, uint32_t value)
+static void print_process_line(unsigned p, unsigned end, unsigned round, uint32_t value, const struct part *part)
 {
-    printf("%02X%02X%02X%02X%08lX\n", UC_KIND_PROCESS, p, end, round, (unsigned long)value);
+    printf("%02X%02X%02X%02X%08lX", UC_KIND_PROCESS, p, end, round, (unsigned long)value);
+    printf("%02X%02X\n", part->data, part->commits);
 }
 
 /* A part that has not crashed has decided by now, and its mark is then the end of its line. */
@@ -149,9 +165,9 @@ static void print_process_lines(const struct ticket *ticket, const struct part *
     for (unsigned p = 1; p <= ticket->n; p++) {
         const uint8_t *state = part[p].state;
         if (part[p].crashed)
-            print_process_line(p, UC_END_CRASHED, part[p].crashed, 0);
+            print_process_line(p, UC_END_CRASHED, part[p].crashed, 0, &part[p]);
         else
-            print_process_line(p, state[UC_STATE_MARK], state[UC_STATE_ROUND], uc_state_value(state));
+            print_process_line(p, state[UC_STATE_MARK], state[UC_STATE_ROUND], uc_state_value(state), &part[p]);
     }
 }
 

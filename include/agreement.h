@@ -34,12 +34,14 @@
  *                                     (0 to n - process), to n, n - 1 and so on downward; set is 0.
  *   04                                once: the end. Nothing follows.
  *
- * A RESULT is n + 1 lines of the same form, each of 16 digits and 0A; its letters are capitals:
+ * A RESULT is n + 1 lines of the same form; its letters are capitals:
  *
- *   11 process end round value(4)     for each process in order: end 01 decided, 02 crashed; the round in which it did;
- *                                     the value that it decided, 0 if it crashed
- *   12 rounds f speakers data(2) commits(2)   the last line: the run's rounds; how many crashed undecided; how many
- *                                     coordinators began their own round up and undecided; frames sent in all
+ *   11 process end round value(4) data commits   for each process in order, 20 digits and 0A: end 01 decided, 02 crashed;
+ *                                     the round in which it did; the value that it decided, 0 if it crashed; how many data
+ *                                     frames and commits it sent, at most n - process each. One that crashed has them too
+ *   12 rounds f speakers data(2) commits(2)   the last line, 16 digits and 0A: the run's rounds; how many crashed
+ *                                     undecided; how many coordinators began their own round up and undecided; frames sent
+ *                                     in all, the sums of those above
  *
  *   ticket      010402                        four processes, at most two crash
  *               02010000000A                  process 1 proposes 0000000A, and so on
@@ -48,10 +50,10 @@
  *               020400000028
  *               03010102000000000000000001    process 1 crashes in round 1 while sending commits, after one of them
  *               04
- *   result      1101020100000000              process 1 crashed in round 1
- *               110201020000000A              process 2 decided 0000000A in round 2
- *               110301020000000A
- *               110401010000000A              process 4 had the one commit, and decided in round 1
+ *   result      11010201000000000301          process 1 crashed in round 1; it had sent 3 data frames and 1 commit
+ *               110201020000000A0202          process 2 decided 0000000A in round 2, and sent 2 and 2
+ *               110301020000000A0000
+ *               110401010000000A0000          process 4 had the one commit, and decided in round 1
  *               1202010200050003              2 rounds, f 1, 2 speakers, 5 data frames, 3 commits
  *
  * The program `simulate` writes a refusal as one line, 1F number line(2), and uc_run answers it: see UC_REFUSALS.
@@ -123,7 +125,7 @@ extern "C" {
 #endif
 
 /* The version of this header and of the library that is installed with it. */
-#define UC_VERSION "1.2"
+#define UC_VERSION "1.3"
 
 /* The most processes. */
 #define UC_MOST_PROCESSES 64
@@ -139,7 +141,7 @@ extern "C" {
 #define UC_STEP_DURING_COMMITS 2
 
 /* The lines of a result with their 0A, the result of n processes, and the longest. */
-#define UC_PROCESS_LINE_BYTES 17
+#define UC_PROCESS_LINE_BYTES 21
 #define UC_LAST_LINE_BYTES 17
 #define UC_RESULT_BYTES_FOR(n) (UC_PROCESS_LINE_BYTES * (n) + UC_LAST_LINE_BYTES)
 #define UC_RESULT_BYTES UC_RESULT_BYTES_FOR(UC_MOST_PROCESSES)
@@ -148,6 +150,14 @@ extern "C" {
 #define UC_KIND_REFUSAL 0x1F
 #define UC_END_DECIDED 1
 #define UC_END_CRASHED 2
+
+/* The ten bytes of a process's line, two digits each: the place of each field. uc_line_byte reads one. */
+#define UC_PROCESS_LINE_PROCESS 1
+#define UC_PROCESS_LINE_END 2
+#define UC_PROCESS_LINE_ROUND 3
+#define UC_PROCESS_LINE_VALUE 4
+#define UC_PROCESS_LINE_DATA 8
+#define UC_PROCESS_LINE_COMMITS 9
 
 /* The nine bytes of a state: the place of each field, and the marks. */
 #define UC_STATE_BYTES 9
@@ -254,13 +264,21 @@ static inline uint32_t uc_state_value(const uint8_t *state)
     return (uint32_t)value[0] << 24 | (uint32_t)value[1] << 16 | (uint32_t)value[2] << 8 | value[3];
 }
 
+/* The byte at a place of a result's line, from its two digits. */
+static inline unsigned uc_line_byte(const uint8_t *line, unsigned place)
+{
+    unsigned high = line[2 * place], low = line[2 * place + 1];
+    return (high <= '9' ? high - '0' : high - 'A' + 10u) << 4 | (low <= '9' ? low - '0' : low - 'A' + 10u);
+}
+
 /*
  * uc_run - run a ticket and write its result
  *
  *   ticket, ticket_len   the ticket's text
- *   output, output_len   where the result goes: UC_RESULT_BYTES_FOR(n) bytes; UC_RESULT_BYTES are enough for every ticket
+ *   output, output_len   where the result goes: UC_RESULT_BYTES_FOR(n) = 21n + 17 bytes, fewer are refusal 9;
+ *                        UC_RESULT_BYTES are enough for every ticket
  *
- * Answers the number of bytes written, UC_RESULT_BYTES_FOR(n), which is from 34 to 1105; the bytes of output after them
+ * Answers the number of bytes written, UC_RESULT_BYTES_FOR(n), which is from 38 to 1361; the bytes of output after them
  * are unchanged. Or 65536 * number + line for refusal `number`, 1 to 9, at line `line` of the ticket (lines count from 1;
  * 0 goes with refusals 1 and 9; a ticket that is over before its 04 is refused at the line after its last); then no byte
  * of output is changed. Refusals are looked for in the order 1, then line by line 2 to 8, then 9.

@@ -8,6 +8,7 @@ result, which says who had decided or crashed when; and `contradictions` says wh
 
 from __future__ import annotations
 
+import collections
 import functools
 import os
 import re
@@ -147,6 +148,8 @@ class Process:
     end: int = 0
     round: int = 0  # of deciding or crashing
     value: int = 0  # decided
+    data: int = 0  # messages that it sent
+    commits: int = 0
 
     def begins(self, round_number):
         """Up and undecided as that round begins."""
@@ -244,6 +247,7 @@ def read_run(ticket, result):
     for process in processes:
         data = expected(result, process.id - 1, PROCESS)
         process.end, process.round, process.value = data[2], data[3], number(data[4:8])
+        process.data, process.commits = data[8:]
         failure = process.failure
         if process.end == CRASHED and (failure is None or failure.round != process.round):
             raise Unusable(f"no failure line lets process {process.id} crash in round {process.round}")
@@ -290,6 +294,12 @@ def contradictions(run):
     commits = sum(len(played.sent(COMMIT)) for played in run.rounds)
     if (data, commits) != (run.data, run.commits):
         wrong.append(f"{data} data and {commits} commits are sent, but the result counts {run.data} and {run.commits}")
+    sent = collections.Counter((message.sender.id, message.kind) for played in run.rounds for message in played.messages)
+    for process in run.processes:
+        data, commits = sent[process.id, DATA], sent[process.id, COMMIT]
+        if (data, commits) != (process.data, process.commits):
+            said = f"its line counts {process.data} and {process.commits}"
+            wrong.append(f"process {process.id} sends {data} data and {commits} commits, but {said}")
     speakers = sum(not played.silent for played in run.rounds)
     if speakers != run.speakers:
         wrong.append(f"{speakers} coordinators speak, but the result counts {run.speakers}")
@@ -452,6 +462,13 @@ def names(processes):
         parts.append(f"{start}" if start == this else f"{start}, {this}" if this == start + 1 else f"{start} to {this}")
         start = after
     return ("process " if len(ids) == 1 else "processes ") + ", ".join(parts)
+
+
+def sent_text(process):
+    """What a process sent; nothing if it sent nothing."""
+    if not process.data and not process.commits:
+        return ""
+    return f"sent {counted(process.data, 'data frame')}, {counted(process.commits, 'commit')}"
 
 
 def failure_text(run, process):

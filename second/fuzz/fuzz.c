@@ -5,9 +5,10 @@
  * needs no second implementation: answers in the documented ranges, equal
  * answers to equal calls, refused calls that change nothing, bytes behind
  * those written left alone, of every result that the processes agree (document
- * 01, and demand 3) and that it has no small letter, and that a ticket in other
- * letters is answered alike and leaves the same bytes (document 02, Paper 1);
- * and then that the second implementation answers alike and leaves the same
+ * 01, and demand 3), that it has no small letter, and that the counts of its
+ * processes are such as they can be and add up (document 02, Paper 2), and that
+ * a ticket in other letters is answered alike and leaves the same bytes (Paper
+ * 1); and then that the second implementation answers alike and leaves the same
  * bytes.
  *
  * libagreement.a is not instrumented: the fuzzer is led by the coverage of the
@@ -36,8 +37,9 @@ uint64_t second_close(uint8_t *state, size_t state_len, const uint8_t *heard, si
 enum {
     LONGEST_TICKET = 4096,
     MOST_PROCESSES = 64,
-    LINE = 17,
-    LONGEST_RESULT = LINE * (MOST_PROCESSES + 1),
+    PROCESS_LINE = 21,
+    LAST_LINE = 17,
+    LONGEST_RESULT = PROCESS_LINE * MOST_PROCESSES + LAST_LINE,
     STATE = 9,
     SPEECH = 8,
     DATA = 6,
@@ -170,23 +172,35 @@ static void check_refusal(uint64_t answer, Input ticket, uint64_t last_number) {
     if (number == 4) CHECK(line == 1);
 }
 
+/* The counts in a process's line: it sends in its own round alone, if it gets
+ * there, and commits after all data; if it decides there, then all of both. */
+static void check_counts(const uint8_t *line, uint32_t process, uint32_t n) {
+    uint32_t data = number_in(line, 8, 1), commits = number_in(line, 9, 1);
+    uint32_t end = number_in(line, 2, 1), round = number_in(line, 3, 1);
+    CHECK(data <= n - process && commits <= n - process);
+    if (commits > 0) CHECK(data == n - process);
+    if (round != process) CHECK(data == 0);
+    if (round == process && end == 1) CHECK(data == n - process && commits == n - process);
+}
+
 /* A result by itself: its form and letters, agreement, validity, f + 1 rounds,
- * and the bound on messages. An accepted ticket has no blanks, so the proposals
- * stand at fixed places in it. */
+ * the counts of each process and their sums, and the bound on messages. An
+ * accepted ticket has no blanks, so the proposals stand at fixed places in it. */
 static void check_result(const uint8_t *result, uint64_t length, Input ticket) {
     uint32_t n = number_in(ticket.bytes, 1, 1), t = number_in(ticket.bytes, 2, 1);
     const uint8_t *proposals = ticket.bytes + 7;
-    CHECK(1 <= n && n <= MOST_PROCESSES && t < n && length == LINE * (n + 1));
+    CHECK(1 <= n && n <= MOST_PROCESSES && t < n && length == PROCESS_LINE * n + LAST_LINE);
     for (uint64_t at = 0; at < length; at++) CHECK(!is_small(result[at]));
-    const uint8_t *last = result + LINE * n;
+    const uint8_t *last = result + PROCESS_LINE * n;
     uint32_t rounds = number_in(last, 1, 1), f = number_in(last, 2, 1);
     uint32_t k = number_in(last, 3, 1);
-    uint32_t messages = number_in(last, 4, 2) + number_in(last, 6, 2);
+    uint32_t data = number_in(last, 4, 2), commits = number_in(last, 6, 2);
     uint32_t decided = 0, crashed = 0, latest = 0, value = 0, proposed = 0;
+    uint32_t data_by_all = 0, commits_by_all = 0;
     for (uint32_t process = 1; process <= n; process++) {
-        const uint8_t *line = result + LINE * (process - 1);
+        const uint8_t *line = result + PROCESS_LINE * (process - 1);
         uint32_t end = number_in(line, 2, 1), round = number_in(line, 3, 1);
-        CHECK(line[LINE - 1] == '\n');
+        CHECK(line[PROCESS_LINE - 1] == '\n');
         CHECK(number_in(line, 0, 1) == 0x11 && number_in(line, 1, 1) == process);
         CHECK(1 <= round && round <= rounds);
         if (round > latest) latest = round;
@@ -199,13 +213,17 @@ static void check_result(const uint8_t *result, uint64_t length, Input ticket) {
             CHECK(end == 2 && number_in(line, 4, 4) == 0);
             crashed++;
         }
+        check_counts(line, process, n);
+        data_by_all += number_in(line, 8, 1);
+        commits_by_all += number_in(line, 9, 1);
     }
+    CHECK(data_by_all == data && commits_by_all == commits);
     for (uint32_t at = 0; at < n; at++) proposed += number_in(proposals + 13 * at, 2, 4) == value;
     CHECK(proposed > 0 && decided > 0);
-    CHECK(last[LINE - 1] == '\n' && number_in(last, 0, 1) == 0x12);
+    CHECK(last[LAST_LINE - 1] == '\n' && number_in(last, 0, 1) == 0x12);
     CHECK(crashed == f && f <= t && latest == rounds && rounds <= f + 1);
     CHECK(1 <= k && k <= f + 1 && k <= rounds);
-    CHECK(messages + k * (k - 1) / 2 <= k * (2 * n - k - 1));
+    CHECK(data + commits + k * (k - 1) / 2 <= k * (2 * n - k - 1));
 }
 
 /* The ticket's result with room for any, or its refusal. */
@@ -278,7 +296,7 @@ static void fuzz_settle(Input input) {
         CHECK(answer == written);
         check_refusal(answer, input, 8);
     } else {
-        CHECK(1 <= answer && answer <= number_in(result + written - LINE, 1, 1));
+        CHECK(1 <= answer && answer <= number_in(result + written - LAST_LINE, 1, 1));
     }
     CHECK(memcmp(text.bytes, input.bytes, input.length) == 0);
     take_back(text);

@@ -5,16 +5,19 @@
 use std::collections::HashSet;
 
 use crate::generate::{damaged, decode_line, decoded_lines, encode_lines, ticket, written};
-use crate::report::result_length;
+use crate::report::{result_length, LONGEST_RESULT};
 use crate::rng::Rng;
 use crate::ticket::{processes_above, Failure, Ticket, LONGEST_TICKET, MOST_PROCESSES};
 use crate::worked;
+
+/// How many tickets the stored corpus of `replay` has.
+pub const STORED: usize = 607;
 
 /// The longest text of a corpus, and the most that `replay` takes.
 pub const LONGEST_TEXT: usize = 4200;
 
 /// The longest output buffer of a corpus, and the most that `replay` has.
-pub const LONGEST_ROOM: usize = 1200;
+pub const LONGEST_ROOM: usize = 1500;
 
 /// A ticket's text, and how long the output buffer is that it is run with.
 #[derive(Clone, Debug, PartialEq, Eq, Hash)]
@@ -28,9 +31,7 @@ pub struct Entry {
 impl Entry {
     /// `text` with room for every result.
     fn ample(text: impl Into<Vec<u8>>) -> Entry {
-        let text = text.into();
-        let room = result_length(MOST_PROCESSES);
-        Entry { text, room }
+        Entry { text: text.into(), room: LONGEST_RESULT }
     }
 }
 
@@ -73,11 +74,8 @@ fn systematic(rng: &mut Rng) -> Vec<Entry> {
 fn random_entry(rng: &mut Rng) -> Entry {
     let ticket = ticket(rng, 24);
     let text = if rng.one_in(3) { written(rng, &ticket) } else { damaged(rng, &ticket) };
-    let room = if rng.one_in(6) {
-        result_length(ticket.n) - 2 + rng.below(4)
-    } else {
-        result_length(MOST_PROCESSES)
-    };
+    let room =
+        if rng.one_in(6) { result_length(ticket.n) - 2 + rng.below(4) } else { LONGEST_RESULT };
     Entry { text, room }
 }
 
@@ -413,14 +411,16 @@ fn wrong_bytes() -> Vec<Entry> {
     texts.into_iter().map(Entry::ample).collect()
 }
 
-/// Refusal 9, and just not refusal 9.
+/// Refusal 9, and just not refusal 9. Before Paper 2 a line had 17 bytes; and if
+/// the last line grew too, a result would have 21(n + 1).
 fn each_room() -> Vec<Entry> {
     let mut entries = Vec::new();
     for n in [1, 4, 64] {
         let text = plain(n, n - 1, vec![]).text();
         let exact = result_length(n);
         let rooms = [0, 1, 17, exact - 17, exact - 1, exact, exact + 1, exact + 17, LONGEST_ROOM];
-        for room in rooms {
+        let lines = usize::from(n) + 1;
+        for room in rooms.into_iter().chain([17 * lines, 21 * lines]) {
             let text = text.clone();
             entries.push(Entry { text, room });
         }
@@ -446,8 +446,8 @@ mod tests {
 
     #[test]
     fn replay_takes_every_entry() {
-        let entries = corpus(1, 600);
-        assert_eq!(entries.len(), 600);
+        let entries = corpus(1, STORED);
+        assert_eq!(entries.len(), STORED);
         assert!(entries.iter().all(|entry| entry.text.len() <= LONGEST_TEXT));
         assert!(entries.iter().all(|entry| entry.room <= LONGEST_ROOM));
     }
@@ -481,7 +481,7 @@ mod tests {
             assert!(in_one_byte(&[letter, capital]) && in_one_byte(&[capital, letter]));
             assert!(in_one_byte(&[letter, letter]));
         }
-        let corpus = corpus(1, 600);
+        let corpus = corpus(1, STORED);
         assert!(entries.iter().all(|entry| corpus.contains(entry)));
         let accepted = corpus.iter().zip(answers(&corpus)).filter(|(_, answer)| answer.is_ok());
         let (mut small, mut mixed) = (0, 0);
@@ -516,12 +516,32 @@ mod tests {
     }
 
     #[test]
+    fn one_byte_less_than_the_result_is_refused_with_9() {
+        let entries = each_room();
+        let answered = |n: u8, room| {
+            let text = plain(n, n - 1, vec![]).text();
+            let entry = Entry { text, room };
+            assert!(entries.contains(&entry), "{n} {room}");
+            answers(&[entry])[0]
+        };
+        let too_short = Err(Reason::OutputTooShort.at_no_line());
+        for (n, before, exact) in [(1, 34, 38), (4, 85, 101), (64, 1105, 1361)] {
+            for room in [0, before, exact - 1] {
+                assert_eq!(answered(n, room), too_short, "{n} {room}");
+            }
+            for room in [exact, exact + 1, exact + 4, LONGEST_ROOM] {
+                assert_eq!(answered(n, room), Ok(exact), "{n} {room}");
+            }
+        }
+    }
+
+    #[test]
     fn the_systematic_part_shows_what_it_is_for() {
         let (mut refusals, mut sizes) = (BTreeSet::new(), BTreeSet::new());
         let entries = systematic(&mut Rng::new(1));
         for answer in answers(&entries) {
             match answer {
-                Ok(length) => sizes.insert(length / 17 - 1),
+                Ok(length) => sizes.insert((length - 17) / 21),
                 Err(refusal) => refusals.insert((refusal.reason.number(), refusal.line)),
             };
         }

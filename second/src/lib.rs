@@ -1,5 +1,5 @@
 //! A second implementation of document 01's base version and of document 02's
-//! Papers 1 and 3, written from the papers alone and in a shape of its own: a run
+//! Papers 1 to 3, written from the papers alone and in a shape of its own: a run
 //! is simulated message by message, with a mailbox for each process and a switch
 //! in between.
 //!
@@ -7,6 +7,7 @@
 //! |---|---|
 //! | "The ticket", refusals 1 to 8 | [`lines`], [`ticket`] |
 //! | 02, Paper 1: letters of either case | [`lines`] |
+//! | 02, Paper 2: what each process has sent | [`process::Sent`], [`report`] |
 //! | 02, Paper 3: what each byte is as a digit, by a rule | [`lines`] |
 //! | "A round" | [`process`], [`switch`], [`simulation`] |
 //! | "The result", refusal 9, settling | [`Simulator`], [`report`] |

@@ -23,6 +23,25 @@ pub enum Status {
     Crashed(u8),
 }
 
+/// How many messages have left a process (02, Paper 2).
+#[derive(Clone, Copy, Debug, Default, PartialEq, Eq)]
+pub struct Sent {
+    /// Data messages, also those to crashed and decided processes.
+    pub data: u8,
+    /// Commits, counted alike.
+    pub commits: u8,
+}
+
+impl Sent {
+    /// Counts one more.
+    pub fn count(&mut self, message: Message) {
+        match message {
+            Message::Data(_) => self.data += 1,
+            Message::Commit => self.commits += 1,
+        }
+    }
+}
+
 /// A process with its mailbox.
 #[derive(Clone, Debug)]
 pub struct Process {
@@ -30,6 +49,7 @@ pub struct Process {
     estimate: u32,
     status: Status,
     failure: Option<Failure>,
+    sent: Sent,
     mailbox: Vec<Message>,
 }
 
@@ -41,6 +61,7 @@ impl Process {
             estimate: proposal,
             status: Status::Active,
             failure: None,
+            sent: Sent::default(),
             mailbox: Vec::with_capacity(2),
         }
     }
@@ -50,6 +71,7 @@ impl Process {
         self.estimate = proposal;
         self.status = Status::Active;
         self.failure = None;
+        self.sent = Sent::default();
         self.mailbox.clear();
     }
 
@@ -71,6 +93,11 @@ impl Process {
     /// What has become of it.
     pub fn status(&self) -> Status {
         self.status
+    }
+
+    /// What it has sent.
+    pub fn sent(&self) -> Sent {
+        self.sent
     }
 
     /// Whether it is up and undecided.
@@ -99,6 +126,11 @@ impl Process {
         let data_step = above.clone().map(move |to| (to, data));
         let commit_step = above.rev().map(|to| (to, Message::Commit));
         data_step.chain(commit_step)
+    }
+
+    /// Charges a message that goes out to this process.
+    pub fn charge(&mut self, message: Message) {
+        self.sent.count(message);
     }
 
     /// Puts a message of `round` into the mailbox, if the process hears in it.
@@ -150,6 +182,17 @@ mod tests {
         let commit = Message::Commit;
         assert_eq!(sent, [(3, data), (4, data), (4, commit), (3, commit)]);
         assert_eq!(Process::new(64, 7).messages(64).count(), 0);
+    }
+
+    #[test]
+    fn what_is_sent_is_charged_by_its_kind() {
+        let mut process = Process::new(1, 7);
+        for (_, message) in process.messages(64).take(63 + 2) {
+            process.charge(message);
+        }
+        assert_eq!(process.sent(), Sent { data: 63, commits: 2 });
+        process.restart(8);
+        assert_eq!(process.sent(), Sent::default());
     }
 
     #[test]

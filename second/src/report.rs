@@ -1,39 +1,44 @@
-//! The result's text (01, "The result").
+//! The result's text (01, "The result"; 02, Paper 2).
 
-use crate::process::{Process, Status};
+use crate::process::{Process, Sent, Status};
 use crate::simulation::Totals;
+use crate::ticket::MOST_PROCESSES;
 
-/// Each result line has eight bytes in two digits each, and its closing 0A.
-pub const LINE_LENGTH: usize = 17;
+/// A process's line has ten bytes in two digits each, and its closing 0A.
+pub const PROCESS_LINE_LENGTH: usize = 21;
 
-/// How long the result for `n` processes is: 17(n + 1).
-pub fn result_length(n: u8) -> usize {
-    LINE_LENGTH * (usize::from(n) + 1)
+/// The last line has eight bytes.
+pub const LAST_LINE_LENGTH: usize = 17;
+
+/// The longest result.
+pub const LONGEST_RESULT: usize = result_length(MOST_PROCESSES);
+
+/// How long the result for `n` processes is: 21n + 17.
+pub const fn result_length(n: u8) -> usize {
+    PROCESS_LINE_LENGTH * n as usize + LAST_LINE_LENGTH
 }
 
 /// Writes a line for each process and the totals to the beginning of `output`,
 /// which has room for them, and leaves the bytes after them.
 pub fn write_result(processes: &[Process], totals: &Totals, output: &mut [u8]) {
-    let mut lines = output.chunks_exact_mut(LINE_LENGTH);
-    for (process, line) in processes.iter().zip(&mut lines) {
-        let bytes = process_line(process.id(), process.status(), process.estimate());
-        write_line(bytes, line);
+    let (lines, rest) = output.split_at_mut(PROCESS_LINE_LENGTH * processes.len());
+    for (process, line) in processes.iter().zip(lines.chunks_exact_mut(PROCESS_LINE_LENGTH)) {
+        let (status, estimate) = (process.status(), process.estimate());
+        write_line(&process_line(process.id(), status, estimate, process.sent()), line);
     }
-    for line in lines.take(1) {
-        write_line(totals_line(totals), line);
-    }
+    write_line(&totals_line(totals), &mut rest[..LAST_LINE_LENGTH]);
 }
 
 /// The bytes of a process's line. No process is active when a run ends; the
 /// line of one that is has an end of its own, 00.
-pub fn process_line(id: u8, status: Status, estimate: u32) -> [u8; 8] {
+pub fn process_line(id: u8, status: Status, estimate: u32, sent: Sent) -> [u8; 10] {
     let (end, round, value) = match status {
         Status::Active => (0x00, 0, estimate),
         Status::Decided(round) => (0x01, round, estimate),
         Status::Crashed(round) => (0x02, round, 0),
     };
     let [a, b, c, d] = value.to_be_bytes();
-    [0x11, id, end, round, a, b, c, d]
+    [0x11, id, end, round, a, b, c, d, sent.data, sent.commits]
 }
 
 fn totals_line(totals: &Totals) -> [u8; 8] {
@@ -51,12 +56,37 @@ fn totals_line(totals: &Totals) -> [u8; 8] {
     ]
 }
 
-/// Writes eight bytes in digits, and 0A, to a part of [`LINE_LENGTH`] bytes.
-pub fn write_line(bytes: [u8; 8], line: &mut [u8]) {
+/// Writes bytes in two digits each, and 0A, to a part of just that length.
+pub fn write_line(bytes: &[u8], line: &mut [u8]) {
     const DIGITS: &[u8; 16] = b"0123456789ABCDEF";
-    for (byte, pair) in bytes.into_iter().zip(line.chunks_exact_mut(2)) {
+    let (digits, end) = line.split_at_mut(2 * bytes.len());
+    for (byte, pair) in bytes.iter().zip(digits.chunks_exact_mut(2)) {
         pair[0] = DIGITS[usize::from(byte >> 4)];
         pair[1] = DIGITS[usize::from(byte & 15)];
     }
-    line[LINE_LENGTH - 1] = b'\n';
+    end[0] = b'\n';
+}
+
+#[cfg(test)]
+mod tests {
+    use super::*;
+
+    #[test]
+    fn a_result_has_21_bytes_a_process_and_17() {
+        assert_eq!([1, 4, 64].map(result_length), [38, 101, 1361]);
+        assert_eq!(LONGEST_RESULT, 1361);
+    }
+
+    #[test]
+    fn the_counts_stand_behind_the_value() {
+        let line = |status, sent| {
+            let mut line = [0; PROCESS_LINE_LENGTH];
+            write_line(&process_line(1, status, 10, sent), &mut line);
+            line
+        };
+        let sent = Sent { data: 3, commits: 1 };
+        assert_eq!(&line(Status::Crashed(1), sent), b"11010201000000000301\n");
+        let most = Sent { data: 63, commits: 63 };
+        assert_eq!(&line(Status::Decided(1), most), b"110101010000000A3F3F\n");
+    }
 }

@@ -3,13 +3,24 @@
 
 use crate::interface::Agreement;
 use crate::local::{SPEECH_LENGTH, STATE_LENGTH};
-use crate::process::{Message, Status};
+use crate::process::{Message, Sent, Status};
 use crate::switch::{Fate, Uplink};
 use crate::ticket::{Failure, Ticket};
 
 /// How many of the bytes that a coordinator yields are data; the rest is the
 /// commit.
 const DATA_LENGTH: usize = 6;
+
+/// How a process ends, and what of its own went out.
+#[derive(Clone, Copy, Debug, PartialEq, Eq)]
+pub struct End {
+    /// What has become of it.
+    pub status: Status,
+    /// The value that it decides; 0 if it crashes.
+    pub value: u32,
+    /// The messages that left it, also those to crashed and decided processes.
+    pub sent: Sent,
+}
 
 /// One process: its state, and what it has heard in this round.
 #[derive(Clone, Debug)]
@@ -18,6 +29,7 @@ struct Local {
     state: [u8; STATE_LENGTH],
     failure: Option<Failure>,
     crashed: Option<u8>,
+    sent: Sent,
     heard: Vec<u8>,
 }
 
@@ -43,21 +55,20 @@ impl Local {
         u32::from_be_bytes([self.state[5], self.state[6], self.state[7], self.state[8]])
     }
 
-    fn end(&self) -> (Status, u32) {
-        match (self.crashed, self.mark()) {
+    fn end(&self) -> End {
+        let (status, value) = match (self.crashed, self.mark()) {
             (Some(round), _) => (Status::Crashed(round), 0),
             (None, 1) => (Status::Decided(self.round()), self.value()),
             (None, _) => (Status::Active, self.value()),
-        }
+        };
+        End { status, value, sent: self.sent }
     }
 }
 
-/// What becomes of each process, with the value it decides, if `module` is
-/// asked for each of them in each round. An error says which call was refused.
-pub fn run_separately(
-    module: &mut impl Agreement,
-    ticket: &Ticket,
-) -> Result<Vec<(Status, u32)>, String> {
+/// What becomes of each process, with the value it decides and what it sends,
+/// if `module` is asked for each of them in each round. An error says which call
+/// was refused.
+pub fn run_separately(module: &mut impl Agreement, ticket: &Ticket) -> Result<Vec<End>, String> {
     let mut locals = start_all(module, ticket)?;
     for round in 1..=ticket.t + 1 {
         for sender in 0..locals.len() {
@@ -87,6 +98,7 @@ fn start_all(module: &mut impl Agreement, ticket: &Ticket) -> Result<Vec<Local>,
             state,
             failure: failure.copied(),
             crashed: None,
+            sent: Sent::default(),
             heard: Vec::with_capacity(SPEECH_LENGTH),
         });
     }
@@ -115,7 +127,10 @@ fn speak(
     let commit_step = recipients.rev().map(|to| (to, Message::Commit, commit));
     for (to, message, bytes) in data_step.chain(commit_step) {
         match uplink.fate(locals[to].id, message) {
-            Fate::Sent => locals[to].heard.extend_from_slice(bytes),
+            Fate::Sent => {
+                locals[sender].sent.count(message);
+                locals[to].heard.extend_from_slice(bytes);
+            }
             Fate::Lost => {}
             Fate::Crashed => break,
         }

@@ -74,7 +74,7 @@ impl Simulation {
     fn send_phase(&mut self, round: u8) {
         let n = self.processes.len() as u8;
         let (up_to_coordinator, above) = self.processes.split_at_mut(usize::from(round));
-        let coordinator = &up_to_coordinator[usize::from(round) - 1];
+        let coordinator = &mut up_to_coordinator[usize::from(round) - 1];
         if !coordinator.is_active() {
             return;
         }
@@ -83,6 +83,7 @@ impl Simulation {
         for (to, message) in coordinator.messages(n) {
             match uplink.fate(to, message) {
                 Fate::Sent => {
+                    coordinator.charge(message);
                     let recipient = &mut above[usize::from(to - round) - 1];
                     self.switch.carry(round, message, recipient);
                 }

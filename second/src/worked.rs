@@ -99,8 +99,8 @@ mod tests {
     fn case_1_whole() {
         let ticket = "010402\n02010000000A\n020200000014\n02030000001E\n020400000028\n\
                       03010102000000000000000001\n04\n";
-        let result = "1101020100000000\n110201020000000A\n110301020000000A\n\
-                      110401010000000A\n1202010200050003\n";
+        let result = "11010201000000000301\n110201020000000A0202\n110301020000000A0000\n\
+                      110401010000000A0000\n1202010200050003\n";
         assert_eq!(case(1).to_string(), ticket);
         assert_eq!(printed(1), result);
         let rounds = Simulator::new().settling_rounds(ticket.as_bytes());
@@ -154,6 +154,34 @@ mod tests {
         assert_eq!((totals.data, totals.commits), (42, 21));
         let (n, k) = (10, 7);
         assert_eq!(k * (2 * n - k - 1) - k * (k - 1) / 2, 42 + 21);
+    }
+
+    #[test]
+    fn what_each_process_of_cases_1_to_9_has_sent() {
+        let seven = [(9, 3), (8, 3), (7, 3), (6, 3), (5, 3), (4, 3), (3, 3)];
+        let figures: [&[(u8, u8)]; 9] = [
+            &[(3, 1), (2, 2)],
+            &[],
+            &[(3, 3)],
+            &[(1, 0), (2, 2)],
+            &[(1, 0), (2, 2)],
+            &[(0, 0), (0, 0), (1, 1)],
+            &[(3, 1), (2, 2)],
+            &[(3, 3)],
+            &seven,
+        ];
+        for (number, sent) in (1..).zip(figures) {
+            let mut simulation = Simulation::new(&case(number));
+            let totals = simulation.run(|_, _| {});
+            let mut sent = sent.to_vec();
+            sent.resize(simulation.processes().len(), (0, 0));
+            let counted = simulation.processes().iter().map(Process::sent);
+            let counted: Vec<_> = counted.map(|sent| (sent.data, sent.commits)).collect();
+            assert_eq!(counted, sent, "case {number}");
+            let data: u16 = sent.iter().map(|&(data, _)| u16::from(data)).sum();
+            let commits: u16 = sent.iter().map(|&(_, commits)| u16::from(commits)).sum();
+            assert_eq!((data, commits), (totals.data, totals.commits), "case {number}");
+        }
     }
 
     #[test]

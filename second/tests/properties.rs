@@ -1,11 +1,11 @@
-//! What demands 2 and 3, the paper's bound and Paper 1 of document 02 claim of
-//! every run, tried on random tickets.
+//! What demands 2 and 3, the paper's bound and Papers 1 and 2 of document 02
+//! claim of every run, tried on random tickets.
 
 use second::generate;
-use second::process::Status;
+use second::process::{Process, Sent, Status};
 use second::report::result_length;
 use second::rng::Rng;
-use second::separate::run_separately;
+use second::separate::{run_separately, End};
 use second::simulation::{Simulation, Totals};
 use second::ticket::{Crash, Ticket, MOST_PROCESSES};
 use second::Simulator;
@@ -82,6 +82,95 @@ fn messages_stay_within_the_papers_bound() {
     }
 }
 
+/// What each process has sent, and the totals.
+fn sent(ticket: &Ticket) -> (Vec<Sent>, Totals) {
+    let mut simulation = Simulation::new(ticket);
+    let totals = simulation.run(|_, _| {});
+    (simulation.processes().iter().map(Process::sent).collect(), totals)
+}
+
+#[test]
+fn the_counts_of_all_processes_add_up_to_the_last_line() {
+    for (_, ticket) in random_tickets(6) {
+        let (sent, totals) = sent(&ticket);
+        let data: u16 = sent.iter().map(|sent| u16::from(sent.data)).sum();
+        let commits: u16 = sent.iter().map(|sent| u16::from(sent.commits)).sum();
+        assert_eq!((data, commits), (totals.data, totals.commits), "{ticket}");
+    }
+}
+
+/// By the numbers that document 01 counts a round's messages with; the
+/// simulation goes message by message.
+#[test]
+fn a_process_sends_what_its_own_round_lets_out() {
+    let (mut by_crashed, mut by_decided) = (0, 0);
+    for (_, ticket) in random_tickets(7) {
+        let (ends, _) = run(&ticket);
+        let line = |id| ticket.failures.iter().find(|failure| failure.process == id);
+        for (id, (sent, (status, _))) in (1..).zip(sent(&ticket).0.into_iter().zip(ends)) {
+            let above = ticket.n - id;
+            let (data, commits) = match status {
+                Status::Decided(round) if round == id => (above, above),
+                Status::Crashed(round) if round == id => match line(id).expect("a line").crash {
+                    Crash::BeforeSending => (0, 0),
+                    Crash::SendingData { reached } => (reached.count_ones() as u8, 0),
+                    Crash::SendingCommits { sent } => (above, sent),
+                },
+                _ => (0, 0),
+            };
+            assert_eq!(sent, Sent { data, commits }, "process {id} of {ticket}");
+            let counted = if matches!(status, Status::Crashed(_)) {
+                &mut by_crashed
+            } else {
+                &mut by_decided
+            };
+            *counted += usize::from(data > 0);
+        }
+    }
+    assert!(by_crashed > 1000 && by_decided > 1000, "{by_crashed} {by_decided}");
+}
+
+/// The byte that two digits make.
+fn byte_at(line: &str, place: usize) -> u8 {
+    u8::from_str_radix(&line[2 * place..2 * place + 2], 16).expect("two digits")
+}
+
+#[test]
+fn the_bytes_that_are_written_add_up() {
+    let mut simulator = Simulator::new();
+    for (_, ticket) in random_tickets(8) {
+        let printed = simulator.print(&ticket.text(), result_length(ticket.n));
+        let lines: Vec<&str> = printed.lines().collect();
+        let (last, processes) = lines.split_last().expect("a result");
+        assert_eq!(processes.len(), usize::from(ticket.n), "{ticket}");
+        assert!(processes.iter().all(|line| line.len() == 20) && last.len() == 16, "{ticket}");
+        for (place, in_all) in [(8, 4), (9, 6)] {
+            let sum: u16 = processes.iter().map(|line| u16::from(byte_at(line, place))).sum();
+            let in_all = u16::from_be_bytes([byte_at(last, in_all), byte_at(last, in_all + 1)]);
+            assert_eq!(sum, in_all, "{ticket}");
+        }
+    }
+}
+
+#[test]
+fn an_output_is_too_short_just_below_21n_plus_17_bytes() {
+    let mut simulator = Simulator::new();
+    for (_, ticket) in random_tickets(9).take(500) {
+        let exact = 21 * usize::from(ticket.n) + 17;
+        let whole = simulator.print(&ticket.text(), exact);
+        assert_eq!(whole.len(), exact, "{ticket}");
+        for room in [0, exact - 4 * usize::from(ticket.n), exact - 1] {
+            let mut output = vec![0xEE; room];
+            let refusal = simulator.run(&ticket.text(), &mut output).expect_err("a refusal");
+            assert_eq!(refusal.to_string(), "1F090000", "{ticket}");
+            assert!(output.iter().all(|&byte| byte == 0xEE), "{ticket}");
+        }
+        let mut output = vec![0xEE; exact + 1];
+        assert_eq!(simulator.run(&ticket.text(), &mut output), Ok(exact), "{ticket}");
+        assert_eq!((&output[..exact], output[exact]), (whole.as_bytes(), 0xEE), "{ticket}");
+    }
+}
+
 #[test]
 fn texts_that_differ_in_the_case_of_letters_alone_are_answered_alike() {
     let mut simulator = Simulator::new();
@@ -110,6 +199,8 @@ fn separate_local_parts_decide_alike() {
     let mut simulator = Simulator::new();
     for (_, ticket) in random_tickets(4) {
         let separate = run_separately(&mut simulator, &ticket);
-        assert_eq!(separate, Ok(run(&ticket).0), "{ticket}");
+        let ends = run(&ticket).0.into_iter().zip(sent(&ticket).0);
+        let ends = ends.map(|((status, value), sent)| End { status, value, sent });
+        assert_eq!(separate, Ok(ends.collect()), "{ticket}");
     }
 }

@@ -1,4 +1,6 @@
-//! All vectors of the repository's tests/vectors.
+//! All vectors of the repository's tests/vectors. The results of base.jsonl and
+//! paper-01.jsonl are those of a program without Paper 2: what is written now,
+//! with two bytes of each line 11 struck out.
 
 mod json;
 
@@ -8,7 +10,7 @@ use std::path::Path;
 use json::Object;
 use second::interface::Agreement;
 use second::lines::Lines;
-use second::Simulator;
+use second::{Simulator, Ticket};
 
 fn vectors(name: &str) -> Vec<Object> {
     let folder = Path::new(env!("CARGO_MANIFEST_DIR")).join("../tests/vectors");
@@ -25,6 +27,25 @@ fn room(vector: &Object) -> usize {
     }
 }
 
+/// A result without the two bytes behind the value of each line 11.
+fn without_counts(printed: &str) -> String {
+    let mut struck_out = String::new();
+    for line in printed.lines() {
+        let process_line = line.starts_with("11");
+        assert!(!process_line || line.len() == 20, "{line}");
+        struck_out += if process_line { &line[..16] } else { line };
+        struck_out.push('\n');
+    }
+    struck_out
+}
+
+/// What is written for a ticket of before Paper 2, with the two bytes struck out.
+/// The output is longer by as much as they take.
+fn printed_before(simulator: &mut Simulator, ticket: &[u8], room: usize) -> String {
+    let n = Ticket::parse(ticket).map_or(0, |ticket| ticket.n);
+    without_counts(&simulator.print(ticket, room + 4 * usize::from(n)))
+}
+
 #[test]
 fn tickets() {
     let mut simulator = Simulator::new();
@@ -32,7 +53,7 @@ fn tickets() {
     for (line, vector) in (1..).zip(&vectors) {
         let about = format!("line {line}: {}", vector.text("about"));
         let ticket = vector.bytes("ticket");
-        let printed = simulator.print(&ticket, room(vector));
+        let printed = printed_before(&mut simulator, &ticket, room(vector));
         assert_eq!(printed, vector.text("result"), "{about}");
 
         let rounds = simulator.settling_rounds(&ticket);
@@ -59,12 +80,28 @@ fn tickets_of_paper_1() {
         assert!(other.eq_ignore_ascii_case(&ticket), "{about}");
         in_other_letters += usize::from(other != ticket);
         for text in [&ticket, &other] {
-            assert_eq!(simulator.print(text, room(vector)), vector.text("result"), "{about}");
+            let printed = printed_before(&mut simulator, text, room(vector));
+            assert_eq!(printed, vector.text("result"), "{about}");
         }
         let rounds = [&ticket, &other].map(|text| simulator.settling_rounds(text));
         assert_eq!(rounds[0], rounds[1], "{about}");
     }
     assert!(vectors.len() >= 300 && in_other_letters >= 140);
+}
+
+#[test]
+fn tickets_of_paper_2() {
+    let mut simulator = Simulator::new();
+    let vectors = vectors("paper-02.jsonl");
+    let mut accepted = 0;
+    for (line, vector) in (1..).zip(&vectors) {
+        let about = format!("line {line}: {}", vector.text("about"));
+        let ticket = vector.written("ticket").expect(&about);
+        let printed = simulator.print(&ticket, room(vector));
+        assert_eq!(printed, vector.text("result"), "{about}");
+        accepted += usize::from(printed.starts_with("11"));
+    }
+    assert!(vectors.len() >= 280 && accepted >= 160, "{accepted}");
 }
 
 /// The byte that two digits make; none if they are not both digits.

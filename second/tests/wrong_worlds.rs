@@ -10,8 +10,8 @@ use second::rng::Rng;
 use second::ticket::MOST_PROCESSES;
 use second::worked;
 use second::worlds::claims::{answer, answer_of_simulation, Answer, Claim, CLAIMS};
-use second::worlds::model::Counts;
 use second::worlds::model::State::{Crashed, Decided};
+use second::worlds::model::{Counts, Sent};
 use second::worlds::rules::{Rules, RIGHT};
 use second::worlds::search::{counterexample, runs};
 use second::worlds::wrong::worlds;
@@ -102,29 +102,39 @@ fn said(world: &str, run: &str) -> Answer {
 
 /// Of a worked run: the rounds, f, the speakers, data and commits; the last
 /// round to decide in and the most messages; the rounds that qualify for
-/// settling.
-type Figures = (&'static str, [u64; 5], (u8, u64), &'static [u8]);
+/// settling; data and commits of the processes that come first, the others'
+/// being 0.
+type Figures = (&'static str, [u64; 5], (u8, u64), &'static [u8], &'static [Sent]);
 
 #[test]
 fn the_figures_of_the_worked_runs() {
     let figures: [Figures; 13] = [
-        ("case 1", [2, 1, 2, 5, 3], (2, 9), &[1, 2]),
-        ("case 2", [1, 0, 1, 0, 0], (1, 0), &[1]),
-        ("case 3", [1, 1, 1, 3, 3], (2, 6), &[1]),
-        ("case 4", [2, 1, 2, 3, 2], (2, 9), &[2]),
-        ("case 5", [2, 1, 2, 3, 2], (2, 9), &[2]),
-        ("case 6", [3, 2, 2, 1, 1], (3, 9), &[3]),
-        ("case 7", [2, 1, 2, 5, 3], (2, 9), &[1, 2]),
-        ("case 8", [1, 0, 1, 3, 3], (1, 6), &[1]),
-        ("case 9", [7, 9, 7, 42, 21], (10, 63), &[1, 2, 3, 4, 5, 6, 7]),
-        ("one crashes later", [3, 2, 3, 0, 0], (3, 3), &[2, 3]),
-        ("silent at last", [2, 3, 1, 3, 1], (4, 6), &[1, 2]),
-        ("no commit", [2, 1, 2, 5, 2], (2, 9), &[1, 2]),
-        ("two reached", [2, 1, 2, 4, 2], (2, 9), &[2]),
+        ("case 1", [2, 1, 2, 5, 3], (2, 9), &[1, 2], &[(3, 1), (2, 2)]),
+        ("case 2", [1, 0, 1, 0, 0], (1, 0), &[1], &[]),
+        ("case 3", [1, 1, 1, 3, 3], (2, 6), &[1], &[(3, 3)]),
+        ("case 4", [2, 1, 2, 3, 2], (2, 9), &[2], &[(1, 0), (2, 2)]),
+        ("case 5", [2, 1, 2, 3, 2], (2, 9), &[2], &[(1, 0), (2, 2)]),
+        ("case 6", [3, 2, 2, 1, 1], (3, 9), &[3], &[(0, 0), (0, 0), (1, 1)]),
+        ("case 7", [2, 1, 2, 5, 3], (2, 9), &[1, 2], &[(3, 1), (2, 2)]),
+        ("case 8", [1, 0, 1, 3, 3], (1, 6), &[1], &[(3, 3)]),
+        (
+            "case 9",
+            [7, 9, 7, 42, 21],
+            (10, 63),
+            &[1, 2, 3, 4, 5, 6, 7],
+            &[(9, 3), (8, 3), (7, 3), (6, 3), (5, 3), (4, 3), (3, 3)],
+        ),
+        ("one crashes later", [3, 2, 3, 0, 0], (3, 3), &[2, 3], &[]),
+        ("silent at last", [2, 3, 1, 3, 1], (4, 6), &[1, 2], &[(3, 1)]),
+        ("no commit", [2, 1, 2, 5, 2], (2, 9), &[1, 2], &[(3, 0), (2, 2)]),
+        ("two reached", [2, 1, 2, 4, 2], (2, 9), &[2], &[(2, 0), (2, 2)]),
     ];
     assert_eq!(figures.map(|(name, ..)| name), worked::runs().map(|(name, _)| name));
-    for (name, counted, limits, settling_rounds) in figures {
+    for (name, counted, limits, settling_rounds, sent) in figures {
         let said = said_under(&RIGHT, name);
+        let (first, others) = said.sent.split_at(sent.len());
+        assert_eq!(first, sent, "{name}");
+        assert!(others.iter().all(|&sent| sent == (0, 0)), "{name}");
         let Counts { rounds, speakers, data, commits } = said.counts;
         assert_eq!([rounds.into(), said.f.into(), speakers, data, commits], counted, "{name}");
         assert_eq!(said.limits, limits, "{name}");
@@ -176,6 +186,32 @@ fn counts_that_no_bound_refuses() {
     assert_eq!(said("coordinator/silent-rounds-not-counted", "silent at last").counts.rounds, 1);
     assert_eq!(said("coordinator/data-counted-as-the-commits", "case 9").counts.data, 21);
     assert_eq!(said("coordinator/unsent-data-counted", "case 6").counts.data, 4);
+}
+
+/// 02, Paper 2: the counts that stand in the lines of case 1 are 3 and 1, 2 and
+/// 2, 0 and 0, 0 and 0.
+#[test]
+fn other_counts_by_process_in_case_1() {
+    assert_eq!(said_under(&RIGHT, "case 1").sent, [(3, 1), (2, 2), (0, 0), (0, 0)]);
+    let figures = [
+        ("coordinator/commits-kept-as-data-of-their-sender", [(1, 1), (2, 2), (0, 0), (0, 0)]),
+        ("coordinator/messages-kept-for-the-next-process", [(0, 0), (3, 1), (2, 2), (0, 0)]),
+        ("coordinator/every-process-has-the-total", [(5, 3); 4]),
+        ("formats/commits-of-a-process-before-its-data", [(1, 3), (2, 2), (0, 0), (0, 0)]),
+        ("formats/counts-of-the-next-process", [(2, 2), (0, 0), (0, 0), (0, 0)]),
+        ("formats/total-in-every-line", [(5, 1), (5, 2), (5, 0), (5, 0)]),
+        ("the counts of all stand in the first line", [(5, 3), (0, 0), (0, 0), (0, 0)]),
+        ("a crashed process has no counts", [(0, 0), (2, 2), (0, 0), (0, 0)]),
+        ("a crashed process has no data", [(0, 1), (2, 2), (0, 0), (0, 0)]),
+        ("counts are cut to one bit", [(1, 1), (0, 0), (0, 0), (0, 0)]),
+    ];
+    for (world, sent) in figures {
+        assert_eq!(said(world, "case 1").sent, sent, "{world}");
+    }
+    // In case 6 alone of the cases does process t + 1 send.
+    assert_eq!(said_under(&RIGHT, "case 6").sent, [(0, 0), (0, 0), (1, 1), (0, 0)]);
+    let left_out = said("coordinator/messages-of-the-last-round-left-out", "case 6");
+    assert_eq!(left_out.sent, [(0, 0), (0, 0), (1, 0), (0, 0)]);
 }
 
 /// 01, case 9: "sum 63, the bound exactly; document 001 gives 55".

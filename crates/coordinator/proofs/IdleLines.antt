@@ -1,9 +1,9 @@
 -- Idle failure lines change nothing (document 01, 'A round'): a process that is up and undecided as a round begins decides in it or later, so that its line,
 -- if it is idle, is of a later round still, and the round does not look at it (FaultsAlike). For well-formed instances. Assumes nothing else.
 use mathlib.Core.List.{List, [], _∷_}
-use mathlib.Core.Path.{_≡_, refl, sym, ap, _∙_}
+use mathlib.Core.Path.{_≡_, refl, sym, ap, ap₂, _∙_}
 use mathlib.Core.Bool.{Bool, true, false, cond}
-use Prim.Native.Nat.{ℕ, zero, suc, _≤_, _<_}
+use Prim.Native.Nat.{ℕ, zero, suc, _+_, _≤_, _<_}
 use native.Mathlib.Omega.{arith}
 use native.Mathlib.Nat.{le-trans}
 use native.Mathlib.Decide.{le-ind}
@@ -11,6 +11,7 @@ use lib.Dec.{ltb}
 use lib.ListN.{length}
 use borrow.Author.Tests.{ltb-true, ne-eqb}
 use Rattle.general.specs.Indexed.{mapFrom}
+use Rattle.general.specs.Counts.{addAt}
 use Rattle.general.proofs.Indexed.{length-mapFrom, mapFrom-at}
 use Rattle.consensus.specs.Instance.{Instance, Fault, correct, crashes, faultOf}
 use Rattle.consensus.specs.State.{State, undecided, decided, crashed, crashesIn}
@@ -18,7 +19,9 @@ use Rattle.consensus.specs.CrashCount.{isIdle, crashedCount}
 use Rattle.consensus.specs.WellFormed.{FaultAllowedBy, faultCount}
 use Rattle.consensus.specs.Consensus.{IsProcess}
 use Rattle.coordinator.specs.Run.{Run, initial, withRound, runTo, runOf, lastRound, crashesOf, endOf}
+use Rattle.coordinator.specs.Count.{dataIn, commitsIn}
 use Rattle.coordinator.specs.WellFormed.{FaultAllowed, WellFormed}
+use Rattle.coordinator.specs.MessagesBySender.{sentTo, dataBy, commitsBy}
 use Rattle.coordinator.specs.IdleLines.{faultLeft, withoutIdle, IdleLinesChangeNothing}
 use Rattle.coordinator.proofs.Pointwise.{stateAt, length-states, state-at}
 use Rattle.coordinator.proofs.History.{undecided-decided, decided-crashed, decided-later, crashed-later}
@@ -121,6 +124,20 @@ module _ (x : Instance) (formed : WellFormed x) where
       let waits : stateAt x r p ≡ undecided w = sym (state-at x r p (omega arith) first (omega arith)) ∙ e in
       rw (fault-left p process) (left-alike x formed r p w (omega arith) process waits (faultOf x p)))
 
+  -- What a round counts is what it adds to the total, so each process sends as many messages of a kind in both.
+  sent-same : (counted : Instance → ℕ → List State → ℕ) (total : Run → ℕ)
+      → ((y : Instance) (r : ℕ) (run : Run) → total (withRound y r run) ≡ total run + counted y r (run .states))
+      → (r : ℕ) → r ≤ lastRound x → sentTo counted (withoutIdle x) r ≡ sentTo counted x r
+  unfolding sentTo runTo withoutIdle
+  sent-same counted total more zero h = refl
+  sent-same counted total more (suc r) h =
+      ap₂ (addAt (suc r)) (counted-same (runs-same r (omega arith)) (runs-same (suc r) h)) (sent-same counted total more r (omega arith))
+    where
+      counted-same : runTo (withoutIdle x) r ≡ runTo x r → runTo (withoutIdle x) (suc r) ≡ runTo x (suc r)
+          → counted (withoutIdle x) (suc r) (runTo (withoutIdle x) r .states) ≡ counted x (suc r) (runTo x r .states)
+      counted-same before after =
+          omega (arith, ap total before, ap total after, more (withoutIdle x) (suc r) (runTo (withoutIdle x) r), more x (suc r) (runTo x r))
+
   -- In both instances f is the number of processes that end crashed.
   crashes-same : crashesOf (withoutIdle x) ≡ crashesOf x
   unfolding runOf withoutIdle
@@ -129,6 +146,13 @@ module _ (x : Instance) (formed : WellFormed x) where
       ∙ ap (λ (run : Run). crashedCount (run .states)) (runs-same (lastRound x) (omega arith)) ∙ sym (crashes-are-crashed x formed)
 
 pub idle-lines-change-nothing : (x : Instance) → WellFormed x → IdleLinesChangeNothing x
-unfolding runOf withoutIdle
+unfolding runOf withRound withoutIdle dataBy commitsBy
 idle-lines-change-nothing x formed =
-    record { formed = left-formed x formed; rounds = runs-same x formed; run = runs-same x formed (lastRound x) (omega arith); crashes = crashes-same x formed }
+    record {
+      formed = left-formed x formed;
+      rounds = runs-same x formed;
+      run = runs-same x formed (lastRound x) (omega arith);
+      dataSent = sent-same x formed dataIn (λ run. run .dataSent) (λ y r run. refl) (lastRound x) (omega arith);
+      commitsSent = sent-same x formed commitsIn (λ run. run .commitsSent) (λ y r run. refl) (lastRound x) (omega arith);
+      crashes = crashes-same x formed;
+    }

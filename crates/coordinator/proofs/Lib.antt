@@ -21,6 +21,7 @@ pub mod Settled
 pub mod Speakers
 pub mod Bound
 pub mod CountsReached
+pub mod MessagesBySender
 pub mod RunRounds
 pub mod FaultsAlike
 pub mod IdleLines

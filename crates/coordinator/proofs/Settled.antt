@@ -3,7 +3,7 @@
 -- For well-formed instances. Assumes nothing else.
 use mathlib.Core.List.{List, [], _∷_}
 use mathlib.Core.Path.{_≡_, refl, sym, ap, _∙_}
-use mathlib.Core.Bool.{true}
+use mathlib.Core.Bool.{true, false}
 use Prim.Native.Nat.{ℕ, suc, _-_, _<_}
 use native.Mathlib.Omega.{arith}
 use native.Mathlib.Nat.{le-refl}
@@ -11,10 +11,12 @@ use borrow.Author.Tests.{eq-eqb, le-leb}
 use lib.ListN.{length, getD}
 use Rattle.consensus.specs.Instance.{Instance}
 use Rattle.consensus.specs.State.{State, undecided, decided, crashed, stateOf}
+use Rattle.coordinator.specs.Undecided.{anyUndecided}
 use Rattle.coordinator.specs.Run.{runOf, lastRound, endOf}
 use Rattle.coordinator.specs.Settling.{valuesHeld, allAre, oneValue, qualifies}
 use Rattle.coordinator.specs.WellFormed.{WellFormed}
 use Rattle.consensus.specs.Consensus.{Agreement, Decides, IsProcess}
+use Rattle.coordinator.proofs.Undecided.{not-any}
 use Rattle.coordinator.proofs.Ends.{states-at-end, end-at}
 use Rattle.coordinator.proofs.Termination.{waits-for-crashes}
 use Rattle.coordinator.proofs.Consensus.{uniform-consensus}
@@ -52,6 +54,11 @@ module _ (x : Instance) (formed : WellFormed x) where
   pub none-ends-undecided : (p v : ℕ) → IsProcess x p → endOf x p ≡ undecided v → ⊥
   none-ends-undecided p v process e =
       omega (arith, waits-for-crashes x formed _ p v (omega arith) process (sym (end-at x formed p process) ∙ e), crashes-le x formed)
+
+  pub run-over : anyUndecided (runOf x .states) ≡ false
+  unfolding endOf
+  run-over =
+      not-any (runOf x .states) (λ p v first last e. none-ends-undecided p v (record { first = first; last = omega (arith, states-at-end x formed) }) e)
 
   -- A value that a process holds at the end is one that it has decided.
   held-is-decided : (p v : ℕ) (s : State) → IsProcess x p → endOf x p ≡ s → HoldsValue s v → (r : ℕ) × Decides x (endOf x) p r v

@@ -8,6 +8,7 @@ use Rattle.consensus.specs.Instance.{Instance, Fault, correct, crashes}
 use Rattle.consensus.specs.State.{State}
 use Rattle.consensus.specs.CrashCount.{isIdle}
 use Rattle.coordinator.specs.Run.{runTo, runOf, lastRound, crashesOf, endOf}
+use Rattle.coordinator.specs.MessagesBySender.{dataBy, commitsBy}
 use Rattle.coordinator.specs.WellFormed.{WellFormed}
 
 -- What is left of a process's fault without its failure line if that is idle, given the process's end ("A failure line whose station decided in an earlier
@@ -34,5 +35,8 @@ pub record IdleLinesChangeNothing (x : Instance) : Type 0 where
   pub rounds : (r : ℕ) → r ≤ lastRound x → runTo (withoutIdle x) r ≡ runTo x r
   -- so is the whole run: the ends, the rounds, the speakers, the data and the commit messages
   pub run : runOf (withoutIdle x) ≡ runOf x
+  -- and what each process sends
+  pub dataSent : dataBy (withoutIdle x) ≡ dataBy x
+  pub commitsSent : commitsBy (withoutIdle x) ≡ commitsBy x
   -- and f
   pub crashes : crashesOf (withoutIdle x) ≡ crashesOf x

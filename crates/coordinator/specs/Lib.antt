@@ -10,6 +10,7 @@ pub mod WellFormed
 pub mod Pairing
 pub mod SpeakerBound
 pub mod CountsReached
+pub mod MessagesBySender
 pub mod RunRounds
 pub mod IdleLines
 pub mod WorkedTable

@@ -6,6 +6,7 @@ use Prim.Native.Nat.{ℕ, zero, suc}
 use lib.ListN.{length}
 use Rattle.consensus.specs.Instance.{Instance}
 use Rattle.coordinator.specs.Run.{lastRound, runOf, crashesOf, latestOf}
+use Rattle.coordinator.specs.MessagesBySender.{dataBy, commitsBy}
 use Rattle.coordinator.specs.Settling.{qualifies}
 use Rattle.coordinator.specs.SpeakerBound.{boundBySpeakers}
 use Rattle.consensus.specs.FourProcesses.{afterOneCommit, idleBesides}
@@ -28,6 +29,8 @@ worked x =
       run = x;
       ends = runOf x .states;
       counts = runOf x .rounds ∷ crashesOf x ∷ runOf x .speakers ∷ runOf x .dataSent ∷ runOf x .commitsSent ∷ [];
+      dataBy = dataBy x;
+      commitsBy = commitsBy x;
       limits = latestOf x ∷ boundBySpeakers (x .processes) (runOf x .speakers) ∷ [];
       settling = qualifyingRounds x;
     }

@@ -14,62 +14,66 @@ pub record WorkedRun : Type 0 where
   pub ends : List State
   -- the last line of the result: the rounds, f, the speakers, the data and the commit messages
   pub counts : List ℕ
+  -- the data messages that each process sent, and the commit messages
+  pub dataBy : List ℕ
+  pub commitsBy : List ℕ
   -- the last round in which one may decide, f + 1, and the most messages that so many speakers may send
   pub limits : List ℕ
   -- the rounds that qualify for settling
   pub settling : List ℕ
 
--- A row of the table: the instance, the ends, the counts, the limits and the settling rounds.
-abbrev pub row : Instance → List State → (counts limits settling : List ℕ) → WorkedRun
-row x ends counts limits settling = record { run = x; ends = ends; counts = counts; limits = limits; settling = settling }
+-- A row of the table: the instance, the ends, the counts, the messages by sender, the limits and the settling rounds.
+abbrev pub row : Instance → List State → (counts dataBy commitsBy limits settling : List ℕ) → WorkedRun
+row x ends counts dataBy commitsBy limits settling =
+    record { run = x; ends = ends; counts = counts; dataBy = dataBy; commitsBy = commitsBy; limits = limits; settling = settling }
 
 -- Case 1: process 1 crashes after one commit.
 abbrev pub case1 : WorkedRun
 case1 =
     row afterOneCommit case1Ends
-    (2 ∷ 1 ∷ 2 ∷ 5 ∷ 3 ∷ []) (2 ∷ 9 ∷ []) (1 ∷ 2 ∷ [])
+    (2 ∷ 1 ∷ 2 ∷ 5 ∷ 3 ∷ []) (3 ∷ 2 ∷ 0 ∷ 0 ∷ []) (1 ∷ 2 ∷ 0 ∷ 0 ∷ []) (2 ∷ 9 ∷ []) (1 ∷ 2 ∷ [])
 
 -- Case 2: one process.
 abbrev pub case2 : WorkedRun
 case2 =
     row (record { processes = 1; resilience = 0; proposals = 10 ∷ []; pattern = correct ∷ [] }) (decided 1 10 ∷ [])
-    (1 ∷ 0 ∷ 1 ∷ 0 ∷ 0 ∷ []) (1 ∷ 0 ∷ []) (1 ∷ [])
+    (1 ∷ 0 ∷ 1 ∷ 0 ∷ 0 ∷ []) (0 ∷ []) (0 ∷ []) (1 ∷ 0 ∷ []) (1 ∷ [])
 
 -- Case 3: process 1 crashes after all its commits, and does not decide.
 abbrev pub case3 : WorkedRun
 case3 =
     row (firstCrashes (duringCommits 3)) (crashed 1 ∷ decided 1 10 ∷ decided 1 10 ∷ decided 1 10 ∷ [])
-    (1 ∷ 1 ∷ 1 ∷ 3 ∷ 3 ∷ []) (2 ∷ 6 ∷ []) (1 ∷ [])
+    (1 ∷ 1 ∷ 1 ∷ 3 ∷ 3 ∷ []) (3 ∷ 0 ∷ 0 ∷ 0 ∷ []) (3 ∷ 0 ∷ 0 ∷ 0 ∷ []) (2 ∷ 6 ∷ []) (1 ∷ [])
 
 -- Case 4: process 1 crashes while sending data, which reaches process 2 alone.
 abbrev pub case4 : WorkedRun
 case4 =
     row (firstCrashes (duringData 2)) (crashed 1 ∷ decided 2 10 ∷ decided 2 10 ∷ decided 2 10 ∷ [])
-    (2 ∷ 1 ∷ 2 ∷ 3 ∷ 2 ∷ []) (2 ∷ 9 ∷ []) (2 ∷ [])
+    (2 ∷ 1 ∷ 2 ∷ 3 ∷ 2 ∷ []) (1 ∷ 2 ∷ 0 ∷ 0 ∷ []) (0 ∷ 2 ∷ 0 ∷ 0 ∷ []) (2 ∷ 9 ∷ []) (2 ∷ [])
 
 -- Case 5: the same, and it reaches process 4 alone.
 abbrev pub case5 : WorkedRun
 case5 =
     row dataToTheLast (crashed 1 ∷ decided 2 20 ∷ decided 2 20 ∷ decided 2 20 ∷ [])
-    (2 ∷ 1 ∷ 2 ∷ 3 ∷ 2 ∷ []) (2 ∷ 9 ∷ []) (2 ∷ [])
+    (2 ∷ 1 ∷ 2 ∷ 3 ∷ 2 ∷ []) (1 ∷ 2 ∷ 0 ∷ 0 ∷ []) (0 ∷ 2 ∷ 0 ∷ 0 ∷ []) (2 ∷ 9 ∷ []) (2 ∷ [])
 
 -- Case 6: processes 1 and 2 crash before sending in round 1.
 abbrev pub case6 : WorkedRun
 case6 =
     row (four (crashes 1 beforeSending ∷ crashes 1 beforeSending ∷ correct ∷ correct ∷ [])) (crashed 1 ∷ crashed 1 ∷ decided 3 30 ∷ decided 3 30 ∷ [])
-    (3 ∷ 2 ∷ 2 ∷ 1 ∷ 1 ∷ []) (3 ∷ 9 ∷ []) (3 ∷ [])
+    (3 ∷ 2 ∷ 2 ∷ 1 ∷ 1 ∷ []) (0 ∷ 0 ∷ 1 ∷ 0 ∷ []) (0 ∷ 0 ∷ 1 ∷ 0 ∷ []) (3 ∷ 9 ∷ []) (3 ∷ [])
 
 -- Case 7: case 1 with a line of process 4, which is idle.
 abbrev pub case7 : WorkedRun
 case7 =
     row idleBesides case1Ends
-    (2 ∷ 1 ∷ 2 ∷ 5 ∷ 3 ∷ []) (2 ∷ 9 ∷ []) (1 ∷ 2 ∷ [])
+    (2 ∷ 1 ∷ 2 ∷ 5 ∷ 3 ∷ []) (3 ∷ 2 ∷ 0 ∷ 0 ∷ []) (1 ∷ 2 ∷ 0 ∷ 0 ∷ []) (2 ∷ 9 ∷ []) (1 ∷ 2 ∷ [])
 
 -- Case 8: only a line of process 3, which is idle.
 abbrev pub case8 : WorkedRun
 case8 =
     row idleAlone case8Ends
-    (1 ∷ 0 ∷ 1 ∷ 3 ∷ 3 ∷ []) (1 ∷ 6 ∷ []) (1 ∷ [])
+    (1 ∷ 0 ∷ 1 ∷ 3 ∷ 3 ∷ []) (3 ∷ 0 ∷ 0 ∷ 0 ∷ []) (3 ∷ 0 ∷ 0 ∷ 0 ∷ []) (1 ∷ 6 ∷ []) (1 ∷ [])
 
 -- The instance of case 9, and how its processes end.
 abbrev pub tenProcesses : Instance
@@ -89,7 +93,10 @@ nineCrashed = crashed 1 ∷ crashed 2 ∷ crashed 3 ∷ crashed 4 ∷ crashed 5 
 
 -- Case 9: processes 8 and 9 get no commit, for they crash in round 1, and none gets it in their place; the bound on messages is met.
 abbrev pub case9 : WorkedRun
-case9 = row tenProcesses nineCrashed (7 ∷ 9 ∷ 7 ∷ 42 ∷ 21 ∷ []) (10 ∷ 63 ∷ []) (1 ∷ 2 ∷ 3 ∷ 4 ∷ 5 ∷ 6 ∷ 7 ∷ [])
+case9 =
+    row tenProcesses nineCrashed (7 ∷ 9 ∷ 7 ∷ 42 ∷ 21 ∷ [])
+    (9 ∷ 8 ∷ 7 ∷ 6 ∷ 5 ∷ 4 ∷ 3 ∷ 0 ∷ 0 ∷ 0 ∷ []) (3 ∷ 3 ∷ 3 ∷ 3 ∷ 3 ∷ 3 ∷ 3 ∷ 0 ∷ 0 ∷ 0 ∷ [])
+    (10 ∷ 63 ∷ []) (1 ∷ 2 ∷ 3 ∷ 4 ∷ 5 ∷ 6 ∷ 7 ∷ [])
 
 -- Process 2 is up in round 1 and crashed in round 2: so round 2 qualifies, and round 1 does not.
 abbrev pub crashesLater : WorkedRun
@@ -97,7 +104,7 @@ crashesLater =
     row
     (record { processes = 3; resilience = 2; proposals = 10 ∷ 20 ∷ 30 ∷ []; pattern = crashes 1 beforeSending ∷ crashes 2 beforeSending ∷ correct ∷ [] })
     (crashed 1 ∷ crashed 2 ∷ decided 3 30 ∷ [])
-    (3 ∷ 2 ∷ 3 ∷ 0 ∷ 0 ∷ []) (3 ∷ 3 ∷ []) (2 ∷ 3 ∷ [])
+    (3 ∷ 2 ∷ 3 ∷ 0 ∷ 0 ∷ []) (0 ∷ 0 ∷ 0 ∷ []) (0 ∷ 0 ∷ 0 ∷ []) (3 ∷ 3 ∷ []) (2 ∷ 3 ∷ [])
 
 -- The last round is silent: its coordinator crashed in round 1, and the one process that waits crashes in it.
 abbrev pub silentAtLast : WorkedRun
@@ -110,19 +117,19 @@ silentAtLast =
       pattern = crashes 1 (duringCommits 1) ∷ crashes 1 beforeSending ∷ crashes 2 beforeSending ∷ correct ∷ [];
     })
     (crashed 1 ∷ crashed 1 ∷ crashed 2 ∷ decided 1 10 ∷ [])
-    (2 ∷ 3 ∷ 1 ∷ 3 ∷ 1 ∷ []) (4 ∷ 6 ∷ []) (1 ∷ 2 ∷ [])
+    (2 ∷ 3 ∷ 1 ∷ 3 ∷ 1 ∷ []) (3 ∷ 0 ∷ 0 ∷ 0 ∷ []) (1 ∷ 0 ∷ 0 ∷ 0 ∷ []) (4 ∷ 6 ∷ []) (1 ∷ 2 ∷ [])
 
 -- All data leave, and no commit does.
 abbrev pub noCommit : WorkedRun
 noCommit =
     row (firstCrashes (duringCommits 0)) (crashed 1 ∷ decided 2 10 ∷ decided 2 10 ∷ decided 2 10 ∷ [])
-    (2 ∷ 1 ∷ 2 ∷ 5 ∷ 2 ∷ []) (2 ∷ 9 ∷ []) (1 ∷ 2 ∷ [])
+    (2 ∷ 1 ∷ 2 ∷ 5 ∷ 2 ∷ []) (3 ∷ 2 ∷ 0 ∷ 0 ∷ []) (0 ∷ 2 ∷ 0 ∷ 0 ∷ []) (2 ∷ 9 ∷ []) (1 ∷ 2 ∷ [])
 
 -- The data reach processes 2 and 3, so that process 4 alone holds another value.
 abbrev pub twoReached : WorkedRun
 twoReached =
     row (firstCrashes (duringData 6)) (crashed 1 ∷ decided 2 10 ∷ decided 2 10 ∷ decided 2 10 ∷ [])
-    (2 ∷ 1 ∷ 2 ∷ 4 ∷ 2 ∷ []) (2 ∷ 9 ∷ []) (2 ∷ [])
+    (2 ∷ 1 ∷ 2 ∷ 4 ∷ 2 ∷ []) (2 ∷ 2 ∷ 0 ∷ 0 ∷ []) (0 ∷ 2 ∷ 0 ∷ 0 ∷ []) (2 ∷ 9 ∷ []) (2 ∷ [])
 
 -- All of them.
 unfoldable pub workedRuns : List WorkedRun

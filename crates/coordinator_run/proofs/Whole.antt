@@ -1,24 +1,31 @@
 -- The whole run: its start, one round more, and its end, early or not; over the tables. Assumes nothing.
 use mathlib.Core.List.{List}
-use mathlib.Core.Path.{_≡_, refl, sym, ap, _∙_}
+use mathlib.Core.Path.{_≡_, refl, sym, ap, ap₂, subst, _∙_}
 use mathlib.Core.Bool.{Bool, true, false, false≢true}
 use Prim.Native.Nat.{ℕ, suc, _+_, _-_, _^_, _≤_, _<_}
 use native.Mathlib.Omega.{arith}
-use lib.ListN.{length, getD, take, length-map, length-take}
+use borrow.Author.Tests.{lt-leb}
+use lib.ListN.{length, getD, set, take, replicate, length-map, length-take, length-replicate, getD-replicate}
 use lib.Seq.{getD-take}
 use Rattle.general.specs.Bits.{member}
+use Rattle.general.specs.Counts.{countOf, addAt}
+use Rattle.general.proofs.Lists.{take-replicate}
+use Rattle.general.proofs.Counts.{stored-first}
 use Rattle.general.proofs.Indexed.{length-mapFrom}
 use Rattle.general.proofs.Sets.{member-none, member-set, first-set, set-same, set-empty}
-use Rattle.consensus.specs.Instance.{Fault, CrashPoint, crashes, faultOf, proposalOf}
-use Rattle.consensus.specs.State.{undecided, stateOf}
+use Rattle.consensus.specs.Instance.{Instance, Fault, CrashPoint, crashes, faultOf, proposalOf}
+use Rattle.consensus.specs.State.{State, undecided, stateOf}
 use Rattle.coordinator.specs.Undecided.{isUndecided, anyUndecided}
-use Rattle.coordinator.specs.Run.{Run, initial, runTo, runOf}
+use Rattle.coordinator.specs.Count.{dataIn, commitsIn}
+use Rattle.coordinator.specs.Run.{Run, initial, withRound, runTo, lastRound}
+use Rattle.coordinator.specs.MessagesBySender.{sentTo}
 use Rattle.consensus.specs.WellFormed.{FaultAllowedBy}
 use Rattle.coordinator.specs.WellFormed.{PointAllowed, WellFormed}
 use Rattle.coordinator.proofs.Pointwise.{states-ext, length-states, initial-state}
 use Rattle.coordinator.proofs.Undecided.{none-undecided, not-any}
 use Rattle.coordinator.proofs.Ended.{run-ended}
-use Rattle.coordinator.proofs.Counts.{speakers-le, data-sent-le, commits-sent-le}
+use Rattle.coordinator.proofs.Counts.{speakers-le, data-in-le, commits-in-le, data-sent-le, commits-sent-le}
+use Rattle.coordinator.proofs.MessagesBySender.{data-silent, commits-silent, sent-round, length-sent, count-sent, sent-ended}
 use Rattle.tables.specs.declared.InstanceTable.{InstanceTable}
 use Rattle.tables.specs.declared.RunTable.{RunTable}
 use Rattle.tables.specs.InstanceOfTable.{faultFrom, instanceOf}
@@ -26,19 +33,20 @@ use Rattle.tables.specs.RunOfTable.{stateByEnd, stateOver, statesOver, statesIn
 use Rattle.tables.proofs.Places.{processes-of, resilience-of, fault-at, state-over, length-states-over}
 use Rattle.coordinator_sending.proofs.Cases.{crashes-by-round}
 use Rattle.coordinator_run.specs.CrashSets.{CrashSets}
+use Rattle.coordinator_run.specs.InitialTable.{initialTable}
+use Rattle.coordinator_run.specs.Running.{NoneSent, RunTo, RunOf}
 use Rattle.coordinator_round.specs.Round.{undecidedSet, RoundAllowed, RoundOf, RoundRun}
 use Rattle.coordinator_run.proofs.TableLimits.{limits, rounds-fit}
 
--- The run as round r begins, one of rounds 1 to `last` or the one after them; and the sets of those that crash in each round.
-pub record AtRound (x : InstanceTable) (last : ℕ) (faulty : List ℕ) (run : RunTable) (r : ℕ) : Type 0 where
+-- The run as round r begins, one of rounds 1 to `last` or the one after them; the sets of those that crash in each round; and what each process has sent.
+pub record AtRound (x : InstanceTable) (last : ℕ) (faulty : List ℕ) (run : RunTable) (dataCounts commitCounts : List ℕ) (r : ℕ) : Type 0 where
   pub well-formed : WellFormed (instanceOf x)
   pub last-process : last ≤ x .n
   pub at-most-64 : x .n ≤ 64
   pub crashing : CrashSets (x .n) (x .«crash_rounds») faulty
   pub first : 1 ≤ r
   pub at-most : r ≤ last + 1
-  pub kept : run .undecided ≡ undecidedSet (x .n) run
-  pub so-far : runFrom (x .n) run ≡ runTo (instanceOf x) (r - 1)
+  pub so-far : RunTo (instanceOf x) (r - 1) (x .n) run dataCounts commitCounts
 
 -- The fault that a table's numbers stand for.
 abbrev numbered : InstanceTable → ℕ → Fault
@@ -48,37 +56,42 @@ module _ (x : InstanceTable) (w : WellFormed (instanceOf x)) where
   its-fault : (p : ℕ) → 1 ≤ p → p ≤ x .n → faultOf (instanceOf x) p ≡ numbered x p
   its-fault p h g = fault-at x p (rounds-fit x w) h g
 
--- A table whose ends and counts are 0 and whose values are the proposals is that of the run as round 1 begins.
-module _ (x : InstanceTable) (last : ℕ) (faulty : List ℕ) (run : RunTable) (w : WellFormed (instanceOf x)) (within : last ≤ x .t + 1)
-    (crashing : CrashSets (x .n) (x .«crash_rounds») faulty) (entries : length (run .ends) ≡ 64)
-    (none-ended : (i : ℕ) → i < 64 → getD (run .ends) i 0 ≡ 0) (values : run .values ≡ x .values) where
-  fits : x .n ≤ length (run .ends)
-  fits = omega (arith, limits x w, entries)
+-- The table before round 1 is that of the run as round 1 begins.
+module _ (x : InstanceTable) (w : WellFormed (instanceOf x)) where
+  abbrev start : RunTable
+  start = initialTable (x .n) (x .values)
+
+  fits : x .n ≤ length (start .ends)
+  fits = omega (arith, limits x w, length-replicate {A = ℕ} 64 0)
 
   proposals-length : length (instanceOf x .proposals) ≡ x .n
   proposals-length = w .all-propose ∙ processes-of x
 
-  start-state : (p : ℕ) → 1 ≤ p → p ≤ x .n → stateOf (statesIn (x .n) run) p ≡ undecided (proposalOf (instanceOf x) p)
+  start-state : (p : ℕ) → 1 ≤ p → p ≤ x .n → stateOf (statesIn (x .n) start) p ≡ undecided (proposalOf (instanceOf x) p)
   unfolding proposalOf instanceOf stateByEnd
   start-state p h g =
       state-over (x .n) _ _ _ fits p h g
-      ∙ rw (none-ended (p - 1) (omega (arith, limits x w)), values, getD-take (x .n) (x .values) (p - 1) 0 (omega arith))
+      ∙ rw (getD-replicate {A = ℕ} 64 (p - 1) 0 0 (omega (arith, limits x w)), getD-take (x .n) (x .values) (p - 1) 0 (omega arith))
 
-  start-states : statesIn (x .n) run ≡ initial (instanceOf x) .states
+  start-states : statesIn (x .n) start ≡ initial (instanceOf x) .states
   unfolding initial
   start-states =
-      states-ext (x .n) (statesIn (x .n) run) (initial (instanceOf x) .states) (length-states-over (x .n) _ _ _ fits)
+      states-ext (x .n) (statesIn (x .n) start) (initial (instanceOf x) .states) (length-states-over (x .n) _ _ _ fits)
       (length-map (instanceOf x .proposals) undecided ∙ proposals-length)
       λ p h g. start-state p h g ∙ sym (initial-state (instanceOf x) p h (omega (arith, proposals-length)))
 
-  all-undecided : 2 ^ (x .n) - 1 ≡ undecidedSet (x .n) run
+  all-undecided : 2 ^ (x .n) - 1 ≡ undecidedSet (x .n) start
   unfolding isUndecided
   all-undecided = first-set (x .n) ∙ set-same (x .n) _ _ (λ p h g. sym (ap isUndecided (start-state p h g)))
 
-  pub at-first-round : run .rounds ≡ 0 → run .speakers ≡ 0 → run .«data_sent» ≡ 0 → run .«commits_sent» ≡ 0 → run .undecided ≡ 2 ^ (x .n) - 1
-      → AtRound x last faulty run 1
+  none-sent : (counts : List ℕ) (counted : Instance → ℕ → List State → ℕ) → counts ≡ replicate 64 0 → take (x .n) counts ≡ sentTo counted (instanceOf x) 0
+  unfolding sentTo
+  none-sent counts counted none = rw (none, processes-of x) (take-replicate {A = ℕ} (x .n) 64 0 (limits x w .1))
+
+  pub at-first-round : (last : ℕ) (faulty : List ℕ) (run : RunTable) (dataCounts commitCounts : List ℕ) → last ≤ x .t + 1
+      → CrashSets (x .n) (x .«crash_rounds») faulty → run ≡ start → NoneSent dataCounts commitCounts → AtRound x last faulty run dataCounts commitCounts 1
   unfolding runOver runTo initial
-  at-first-round rounds speakers data-sent commits-sent first-n =
+  at-first-round last faulty run dataCounts commitCounts within crashing begun none =
       record {
         well-formed = w;
         last-process = omega (arith, within, limits x w);
@@ -86,8 +99,13 @@ module _ (x : InstanceTable) (last : ℕ) (faulty : List ℕ) (run : RunTable) (
         crashing = crashing;
         first = omega arith;
         at-most = omega arith;
-        kept = first-n ∙ all-undecided;
-        so-far = rw (start-states, rounds, speakers, data-sent, commits-sent);
+        so-far =
+            record {
+              run = rw (begun, start-states);
+              kept = rw begun all-undecided;
+              dataSent = none-sent dataCounts dataIn (none .0);
+              commitsSent = none-sent commitCounts commitsIn (none .1);
+            };
       }
 
 -- The table's set tells whether a process is up and undecided.
@@ -109,13 +127,14 @@ module _ (n : ℕ) (run : RunTable) (entries : n ≤ length (run .ends)) (kept :
       by-test true e = refl
       by-test false e = absurd (some (kept ∙ sym (set-empty n _ (λ p _ _. none-undecided (statesIn n run) p e))))
 
-module _ (x : InstanceTable) (last : ℕ) (faulty : List ℕ) (run : RunTable) (r : ℕ) (now : AtRound x last faulty run r) where
+module _ (x : InstanceTable) (last : ℕ) (faulty : List ℕ) (run : RunTable) (dataCounts commitCounts : List ℕ) (r : ℕ)
+    (now : AtRound x last faulty run dataCounts commitCounts r) where
   -- The table has an end for each process, as the run has a state for each.
   entries : x .n ≤ length (run .ends)
   unfolding runOver statesOver
   entries =
       let size : length (statesIn (x .n) run) ≡ x .n =
-      ap (λ (known : Run). length (known .states)) (now .so-far) ∙ length-states (instanceOf x) (r - 1)
+      ap (λ (known : Run). length (known .states)) (now .so-far .run) ∙ length-states (instanceOf x) (r - 1)
       ∙ now .well-formed .all-propose ∙ processes-of x
       in
       omega (arith, size, length-mapFrom (stateOver (run .«end_rounds») (run .values)) 1 (take (x .n) (run .ends)), length-take (x .n) (run .ends))
@@ -146,9 +165,9 @@ module _ (x : InstanceTable) (last : ℕ) (faulty : List ℕ) (run : RunTable) (
   unfolding runOver
   round-allowed g some =
       let w = now .well-formed in
-      let speakers : run .speakers ≡ runTo (instanceOf x) (r - 1) .speakers = ap (λ (known : Run). known .speakers) (now .so-far) in
-      let data-sent : run .«data_sent» ≡ runTo (instanceOf x) (r - 1) .dataSent = ap (λ (known : Run). known .dataSent) (now .so-far) in
-      let commits-sent : run .«commits_sent» ≡ runTo (instanceOf x) (r - 1) .commitsSent = ap (λ (known : Run). known .commitsSent) (now .so-far) in
+      let speakers : run .speakers ≡ runTo (instanceOf x) (r - 1) .speakers = ap (λ (known : Run). known .speakers) (now .so-far .run) in
+      let data-sent : run .«data_sent» ≡ runTo (instanceOf x) (r - 1) .dataSent = ap (λ (known : Run). known .dataSent) (now .so-far .run) in
+      let commits-sent : run .«commits_sent» ≡ runTo (instanceOf x) (r - 1) .commitsSent = ap (λ (known : Run). known .commitsSent) (now .so-far .run) in
       let inside : r - 1 ≤ instanceOf x .processes = rw processes-of (omega arith) in
       let here : r ≤ x .n = omega arith in
       record {
@@ -161,43 +180,103 @@ module _ (x : InstanceTable) (last : ℕ) (faulty : List ℕ) (run : RunTable) (
             };
         instance = instanceOf x;
         of-instance = round-of g;
-        some-undecided = somebody (x .n) run entries (now .kept) some;
-        kept = now .kept;
+        some-undecided = somebody (x .n) run entries (now .so-far .kept) some;
+        kept = now .so-far .kept;
         speakers = omega (arith, speakers-le (instanceOf x) (r - 1));
         data-sent = omega (arith, data-sent-le (instanceOf x) w (r - 1) inside);
         commits-sent = omega (arith, commits-sent-le (instanceOf x) w (r - 1) inside);
       }
 
-  pub at-next-round : (next : RunTable) → r ≤ last → RoundRun (x .n) r (numbered x r) (getD faulty (r - 1) 0) run next → AtRound x last faulty next (r + 1)
-  unfolding runTo
-  at-next-round next g done =
-      let number : r + 1 - 1 ≡ suc (r - 1) = omega arith in
-      let same : suc (r - 1) ≡ r = omega arith in
-      record {
-        well-formed = now .well-formed;
-        last-process = now .last-process;
-        at-most-64 = now .at-most-64;
-        crashing = now .crashing;
-        first = omega arith;
-        at-most = omega arith;
-        kept = done .kept;
-        so-far = rw number (done .round (instanceOf x) (round-of g) ∙ rw (now .so-far, same));
-      }
+  -- What round r counts, of either kind.
+  abbrev dataHere : ℕ
+  dataHere = dataIn (instanceOf x) r (runTo (instanceOf x) (r - 1) .states)
+
+  abbrev commitsHere : ℕ
+  commitsHere = commitsIn (instanceOf x) r (runTo (instanceOf x) (r - 1) .states)
+
+  module _ (next : RunTable) (g : r ≤ last) (done : RoundRun (x .n) r (numbered x r) (getD faulty (r - 1) 0) run next) where
+    next-run : runFrom (x .n) next ≡ withRound (instanceOf x) r (runTo (instanceOf x) (r - 1))
+    next-run = done .round (instanceOf x) (round-of g) ∙ ap (withRound (instanceOf x) r) (now .so-far .run)
+
+    inside : r ≤ instanceOf x .processes
+    inside = rw processes-of (omega (arith, now .last-process))
+
+    -- It is what the totals have gained, and fits a byte.
+    pub data-added : (next .«data_sent» ≡ run .«data_sent» + dataHere) × (dataHere < 256)
+    unfolding runOver withRound
+    data-added =
+        let after : next .«data_sent» ≡ runTo (instanceOf x) (r - 1) .dataSent + dataHere = ap (λ (known : Run). known .dataSent) next-run in
+        let before : run .«data_sent» ≡ runTo (instanceOf x) (r - 1) .dataSent = ap (λ (known : Run). known .dataSent) (now .so-far .run) in
+        let few = data-in-le (instanceOf x) (now .well-formed) r (runTo (instanceOf x) (r - 1) .states) (now .first) inside in
+        (omega (arith, after, before), omega (arith, few, now .well-formed .at-most-64))
+
+    pub commits-added : (next .«commits_sent» ≡ run .«commits_sent» + commitsHere) × (commitsHere < 256)
+    unfolding runOver withRound
+    commits-added =
+        let after : next .«commits_sent» ≡ runTo (instanceOf x) (r - 1) .commitsSent + commitsHere = ap (λ (known : Run). known .commitsSent) next-run in
+        let before : run .«commits_sent» ≡ runTo (instanceOf x) (r - 1) .commitsSent = ap (λ (known : Run). known .commitsSent) (now .so-far .run) in
+        let few = commits-in-le (instanceOf x) (now .well-formed) r (runTo (instanceOf x) (r - 1) .states) (now .first) inside in
+        (omega (arith, after, before), omega (arith, few, now .well-formed .at-most-64))
+
+    -- Stored for the round's coordinator, which had sent none, it is what that process has sent.
+    kept-next : (counted : Instance → ℕ → List State → ℕ) (counts : List ℕ) → take (x .n) counts ≡ sentTo counted (instanceOf x) (r - 1) → (d : ℕ)
+        → d ≡ counted (instanceOf x) r (runTo (instanceOf x) (r - 1) .states) → take (x .n) (set counts (r - 1) d) ≡ sentTo counted (instanceOf x) r
+    unfolding countOf
+    kept-next counted counts before d adds =
+        let places : length (take (x .n) counts) ≡ x .n = ap length before ∙ length-sent counted (instanceOf x) (r - 1) ∙ processes-of x in
+        let unsent : getD counts (r - 1) 0 ≡ 0 =
+        sym (getD-take (x .n) counts (r - 1) 0 (omega (arith, now .first, now .last-process))) ∙ ap (λ (l : List ℕ). getD l (r - 1) 0) before
+        ∙ count-sent counted (instanceOf x) (r - 1) r (now .first) inside ∙ rw (lt-leb r (r - 1) (omega (arith, now .first)))
+        in
+        stored-first (x .n) r counts (now .first) (omega (arith, now .last-process)) (omega (arith, places, length-take (x .n) counts)) unsent d
+        ∙ ap₂ (addAt r) adds before ∙ sym (sent-round counted (instanceOf x) r (now .first))
+
+    pub at-next-round : AtRound x last faulty next (set dataCounts (r - 1) (next .«data_sent» - run .«data_sent»))
+        (set commitCounts (r - 1) (next .«commits_sent» - run .«commits_sent»)) (r + 1)
+    unfolding runTo
+    at-next-round =
+        let number : r + 1 - 1 ≡ suc (r - 1) = omega (arith, now .first) in
+        let same : suc (r - 1) ≡ r = omega (arith, now .first) in
+        record {
+          well-formed = now .well-formed;
+          last-process = now .last-process;
+          at-most-64 = now .at-most-64;
+          crashing = now .crashing;
+          first = omega arith;
+          at-most = omega arith;
+          so-far =
+              record {
+                run = rw number (next-run ∙ rw same);
+                kept = done .kept;
+                dataSent = rw (number, same) (kept-next dataIn dataCounts (now .so-far .dataSent) _ (omega (arith, data-added .0)));
+                commitsSent = rw (number, same) (kept-next commitsIn commitCounts (now .so-far .commitsSent) _ (omega (arith, commits-added .0)));
+              };
+        }
 
   -- A run that has ended before its last round.
-  pub ended-early : run .undecided ≡ 0 → runFrom (x .n) run ≡ runTo (instanceOf x) last
+  pub ended-early : run .undecided ≡ 0 → RunTo (instanceOf x) last (x .n) run dataCounts commitCounts
   unfolding runOver
   ended-early none =
       let over : anyUndecided (runTo (instanceOf x) (r - 1) .states) ≡ false =
-      ap (λ (known : Run). anyUndecided (known .states)) (sym (now .so-far)) ∙ nobody (x .n) run entries (now .kept) none
+      ap (λ (known : Run). anyUndecided (known .states)) (sym (now .so-far .run)) ∙ nobody (x .n) run entries (now .so-far .kept) none
       in
-      now .so-far ∙ sym (run-ended (instanceOf x) (r - 1) last over (omega (arith, now .at-most)))
+      let within : r - 1 ≤ last = omega (arith, now .at-most) in
+      record {
+        run = now .so-far .run ∙ sym (run-ended (instanceOf x) (r - 1) last over within);
+        kept = now .so-far .kept;
+        dataSent = now .so-far .dataSent ∙ sym (sent-ended dataIn (instanceOf x) (data-silent (instanceOf x)) (r - 1) last over within);
+        commitsSent = now .so-far .commitsSent ∙ sym (sent-ended commitsIn (instanceOf x) (commits-silent (instanceOf x)) (r - 1) last over within);
+      }
 
   -- A run that has had all its rounds.
-  pub ended-late : last < r → runFrom (x .n) run ≡ runTo (instanceOf x) last
-  ended-late g = let all : r - 1 ≡ last = omega (arith, now .at-most) in now .so-far ∙ ap (runTo (instanceOf x)) all
+  pub ended-late : last < r → RunTo (instanceOf x) last (x .n) run dataCounts commitCounts
+  ended-late g =
+      let all : r - 1 ≡ last = omega (arith, now .at-most) in
+      subst (λ (q : ℕ). RunTo (instanceOf x) q (x .n) run dataCounts commitCounts) all (now .so-far)
 
 -- The whole run is that to round t + 1.
-pub to-the-last : (x : InstanceTable) (run : Run) → run ≡ runTo (instanceOf x) (x .t + 1) → run ≡ runOf (instanceOf x)
-unfolding runOf
-to-the-last x run same = let last : x .t + 1 ≡ suc (instanceOf x .resilience) = rw resilience-of (omega arith) in same ∙ ap (runTo (instanceOf x)) last
+pub to-the-last : (x : InstanceTable) (run : RunTable) (dataCounts commitCounts : List ℕ) → RunTo (instanceOf x) (x .t + 1) (x .n) run dataCounts commitCounts
+    → RunOf (instanceOf x) (x .n) run dataCounts commitCounts
+to-the-last x run dataCounts commitCounts ran =
+    let last : x .t + 1 ≡ lastRound (instanceOf x) = rw resilience-of (omega arith) in
+    subst (λ (q : ℕ). RunTo (instanceOf x) q (x .n) run dataCounts commitCounts) last ran

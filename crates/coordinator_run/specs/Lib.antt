@@ -1,2 +1,4 @@
 pub mod CrashSets
+pub mod InitialTable
 pub mod CrashCountOver
+pub mod Running

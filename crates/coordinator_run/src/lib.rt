@@ -1,15 +1,15 @@
 // The rounds of an instance one after the other, until no process is both up and undecided (document 01, 'A round'), and f.
-// The instance's arrays are lent; the run is a table by value that goes through each round and comes back.
+// The instance's arrays are lent; the run is a table by value that goes through each round and comes back. What each process sends is kept beside it, in
+// two lent arrays (document 02, Paper 2).
 ghost use mathlib.Core.Path.{_≡_};
 ghost use Prim.Native.Nat.{_+_, _≤_};
 ghost use lib.ListN.{length};
-ghost use Rattle.coordinator.specs.Run.{runTo, runOf};
 ghost use Rattle.coordinator.specs.WellFormed.{WellFormed};
 ghost use Rattle.tables.specs.InstanceOfTable.{tableOf, instanceOf};
-ghost use Rattle.tables.specs.RunOfTable.{runFrom};
-ghost use Rattle.coordinator_round.specs.Round.{undecidedSet};
 ghost use Rattle.coordinator_run.specs.CrashSets.{CrashSets};
 ghost use Rattle.coordinator_run.specs.CrashCountOver.{crashCountOver};
+ghost use Rattle.coordinator_run.specs.InitialTable.{initialTable};
+ghost use Rattle.coordinator_run.specs.Running.{NoneSent, RunTo, RunOf};
 use coordinator_sending::count;
 use tables::RunTable;
 
@@ -33,8 +33,25 @@ fn crash_sets(n: u8, crash_rounds: &[u8; 64]) -> [u64; 64]
     by_round
 }
 
+// The run before round 1: every process holds its proposal.
+fn initial_run(n: u8, values: [u32; 64]) -> RunTable
+    requires { ⌜ (1 ≤ n) × (n ≤ 64) ⌝ }
+    ensures { λ run. ⌜ run ≡ initialTable n values ⌝ }
+{
+    RunTable {
+        ends: [tables::UNDECIDED; 64],
+        end_rounds: [0; 64],
+        values: values,
+        rounds: 0,
+        speakers: 0,
+        data_sent: 0,
+        commits_sent: 0,
+        undecided: sets::first_processes(n),
+    }
+}
+
 // The run after rounds 1 to `last`, or after the earlier round by which no process is both up and undecided; its `undecided` is the set by its arrays.
-// Before round 1 every process holds its proposal.
+// What a round counts is kept for its coordinator in the two arrays that are lent, which hold no count at first.
 pub fn run_to<'a>(
     n: u8,
     t: u8,
@@ -44,29 +61,25 @@ pub fn run_to<'a>(
     steps: &'a [u8; 64],
     reached: &'a [u64; 64],
     counts: &'a [u8; 64],
+    data_by: &mut [u8; 64],
+    commits_by: &mut [u8; 64],
 ) -> RunTable
-    requires { ⌜ WellFormed (instanceOf (tableOf n t values (now «crash_rounds») (now steps) (now reached) (now counts))) × (last ≤ t + 1) ⌝ }
-    ensures { λ run. ⌜ (runFrom n run
-        ≡ runTo (instanceOf (tableOf n t values (now («crash_rounds» .entry)) (now (steps .entry)) (now (reached .entry)) (now (counts .entry)))) last)
-        × (run .undecided ≡ undecidedSet n run) ⌝ }
+    requires { ⌜ WellFormed (instanceOf (tableOf n t values (now «crash_rounds») (now steps) (now reached) (now counts))) × (last ≤ t + 1)
+        × NoneSent (now «data_by») (now «commits_by») ⌝ }
+    ensures { λ run. ⌜ RunTo
+        (instanceOf (tableOf n t values (now («crash_rounds» .entry)) (now (steps .entry)) (now (reached .entry)) (now (counts .entry)))) last
+        n run (now («data_by» .exit)) (now («commits_by» .exit)) ⌝ }
 {
     let faulty = crash_sets(n, crash_rounds);
-    let mut run = RunTable {
-        ends: [tables::UNDECIDED; 64],
-        end_rounds: [0; 64],
-        values: values,
-        rounds: 0,
-        speakers: 0,
-        data_sent: 0,
-        commits_sent: 0,
-        undecided: sets::first_processes(n),
-    };
+    let mut run = initial_run(n, values);
     let mut r: u8 = 1;
     while r <= last {
         if run.undecided == 0 {
             return run;
         }
         let i = (r - 1) as usize;
+        let data = run.data_sent;
+        let commits = run.commits_sent;
         run = coordinator_round::run_round(
             n,
             r,
@@ -77,6 +90,8 @@ pub fn run_to<'a>(
             faulty[i],
             run,
         );
+        data_by[i] = (run.data_sent - data) as u8;
+        commits_by[i] = (run.commits_sent - commits) as u8;
         r += 1;
     }
     run
@@ -91,13 +106,27 @@ pub fn run_all<'a>(
     steps: &'a [u8; 64],
     reached: &'a [u64; 64],
     counts: &'a [u8; 64],
+    data_by: &mut [u8; 64],
+    commits_by: &mut [u8; 64],
 ) -> RunTable
-    requires { ⌜ WellFormed (instanceOf (tableOf n t values (now «crash_rounds») (now steps) (now reached) (now counts))) ⌝ }
-    ensures { λ run. ⌜ (runFrom n run
-        ≡ runOf (instanceOf (tableOf n t values (now («crash_rounds» .entry)) (now (steps .entry)) (now (reached .entry)) (now (counts .entry)))))
-        × (run .undecided ≡ undecidedSet n run) ⌝ }
+    requires { ⌜ WellFormed (instanceOf (tableOf n t values (now «crash_rounds») (now steps) (now reached) (now counts)))
+        × NoneSent (now «data_by») (now «commits_by») ⌝ }
+    ensures { λ run. ⌜ RunOf
+        (instanceOf (tableOf n t values (now («crash_rounds» .entry)) (now (steps .entry)) (now (reached .entry)) (now (counts .entry))))
+        n run (now («data_by» .exit)) (now («commits_by» .exit)) ⌝ }
 {
-    run_to(n, t, values, t + 1, crash_rounds, steps, reached, counts)
+    run_to(
+        n,
+        t,
+        values,
+        t + 1,
+        crash_rounds,
+        steps,
+        reached,
+        counts,
+        data_by,
+        commits_by,
+    )
 }
 
 // f: the failure lines that are not idle, given the last states. It looks at the crash rounds, the ends and the rounds of these alone.

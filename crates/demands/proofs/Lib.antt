@@ -10,6 +10,8 @@ pub mod Demand1
 pub mod Demand2
 pub mod Demand3
 pub mod BoundClaim
+pub mod SenderClaim
+pub mod RoomClaim
 pub mod IdleClaim
 pub mod ResultInCapitals
 pub mod LettersClaim

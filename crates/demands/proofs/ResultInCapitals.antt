@@ -11,30 +11,36 @@ use Rattle.coordinator.specs.Run.{Run, runOf, crashesOf}
 use Rattle.formats.specs.Capitals.{InCapitals}
 use Rattle.formats.specs.Reading.{accepted}
 use Rattle.formats.specs.Ticket.{readTicket}
-use Rattle.formats.specs.ResultLine.{processLine, lastLine, joined, resultLines, resultText}
+use Rattle.formats.specs.ResultLine.{processLine, lastLine, joined, lineBy, processLines, resultLines, resultText}
 use Rattle.formats.proofs.InCapitals.{capitals-append, line-in-capitals}
 use Rattle.formats.proofs.WellFormed.{accepted-well-formed}
-use Rattle.demands.proofs.ResultReadBack.{Fits, RunFits, lineBytes, process-line-bytes, lastBytes, last-line-bytes}
+use Rattle.demands.proofs.ResultReadBack.{Fits, AllFit, RunFits, lineBytes, process-line-bytes, lastBytes, last-line-bytes}
 use Rattle.demands.proofs.EndsFit.{run-fits}
 
 -- The lines of processes, of which the first is process p.
-processes-in-capitals : (states : List State) (p : ℕ) → p + length states ≤ 256 → ((k : ℕ) → k < length states → Fits (getD states k (crashed 0)))
-    → InCapitals (joined (mapFrom processLine p states))
-unfolding mapFrom joined processLine InCapitals
-processes-in-capitals [] p few ends = refl
-processes-in-capitals (s ∷ states) p few ends =
-    capitals-append (processLine p s) (joined (mapFrom processLine (suc p) states))
-    (line-in-capitals (lineBytes p s) (process-line-bytes p s (omega arith) (ends 0 (omega arith))))
-    (processes-in-capitals states (suc p) (omega arith) (λ k h. ends (suc k) (omega arith)))
+module _ (dataBy commitsBy : List ℕ) where
+  processes-in-capitals : (states : List State) (p : ℕ) → p + length states ≤ 256 → ((k : ℕ) → k < length states → Fits (getD states k (crashed 0)))
+      → AllFit dataBy p (p + length states) → AllFit commitsBy p (p + length states) → InCapitals (joined (mapFrom (lineBy dataBy commitsBy) p states))
+  unfolding mapFrom joined lineBy processLine InCapitals
+  processes-in-capitals [] p few ends e c = refl
+  processes-in-capitals (s ∷ states) p few ends e c =
+      let own = process-line-bytes dataBy commitsBy p s (omega arith) (ends 0 (omega arith))
+      (e p (omega arith) (omega arith)) (c p (omega arith) (omega arith))
+      in
+      capitals-append (lineBy dataBy commitsBy p s) (joined (mapFrom (lineBy dataBy commitsBy) (suc p) states))
+      (line-in-capitals (lineBytes dataBy commitsBy p s) own)
+      (processes-in-capitals states (suc p) (omega arith) (λ k h. ends (suc k) (omega arith))
+      (λ q h g. e q (omega arith) (omega arith)) (λ q h g. c q (omega arith) (omega arith)))
 
-lines-in-capitals : (run : Run) (f n : ℕ) → RunFits run f n → InCapitals (resultLines run f)
-unfolding resultLines lastLine
-lines-in-capitals run f n fit =
-    capitals-append (joined (mapFrom processLine 1 (run .states))) (lastLine run f)
-    (processes-in-capitals (run .states) 1 (omega (arith, fit .few, fit .all-end)) (λ k h. fit .states k (omega (arith, fit .all-end))))
-    (line-in-capitals (lastBytes run f n fit) (last-line-bytes run f n fit))
+lines-in-capitals : (run : Run) (dataBy commitsBy : List ℕ) (f n : ℕ) → RunFits run dataBy commitsBy f n → InCapitals (resultLines run dataBy commitsBy f)
+unfolding resultLines processLines lastLine
+lines-in-capitals run dataBy commitsBy f n fit =
+    capitals-append (processLines dataBy commitsBy (run .states)) (lastLine run f)
+    (processes-in-capitals dataBy commitsBy (run .states) 1 (omega (arith, fit .few, fit .all-end))
+    (λ k h. fit .states k (omega (arith, fit .all-end))) (rw (fit .all-end) (fit .dataBy)) (rw (fit .all-end) (fit .commitsBy)))
+    (line-in-capitals (lastBytes run dataBy commitsBy f n fit) (last-line-bytes run dataBy commitsBy f n fit))
 
 -- Of an accepted text.
 pub text-in-capitals : (text : List ℕ) (x : Instance) → readTicket text ≡ accepted x → InCapitals (resultText x)
 unfolding resultText
-text-in-capitals text x read = lines-in-capitals (runOf x) (crashesOf x) (x .processes) (run-fits x (accepted-well-formed text x read))
+text-in-capitals text x read = lines-in-capitals (runOf x) _ _ (crashesOf x) (x .processes) (run-fits x (accepted-well-formed text x read))

@@ -1,5 +1,6 @@
 -- The premises of the claims are met by case 1: computed from its text and those that it is paired with. Assumes nothing.
 use mathlib.Core.List.{List, [], _∷_}
+use mathlib.Core.Option.{none}
 use mathlib.Core.Path.{_≡_, refl}
 use Prim.Native.Nat.{ℕ, zero, suc, _-_}
 use native.Mathlib.Omega.{arith}
@@ -8,6 +9,7 @@ use lib.ListN.{replicate, getD}
 use Rattle.general.specs.Bits.{member, ones64}
 use Rattle.general.specs.BigEndian.{number, numberFrom, bytesOf}
 use Rattle.general.specs.Indexed.{mapFrom}
+use Rattle.general.specs.Counts.{countOf, addAt}
 use Rattle.general.specs.Text.{ascii}
 use Rattle.consensus.specs.Instance.{Instance, Fault, correct, crashes, duringCommits, pointFrom, faultOf, withinLimits}
 use Rattle.consensus.specs.Consensus.{Decides}
@@ -22,6 +24,7 @@ use Rattle.coordinator.specs.Undecided.{isUndecided, anyUndecided}
 use Rattle.coordinator.specs.Count.{dataAt, commitsAt, countIn, speaks, dataIn, commitsIn}
 use Rattle.consensus.specs.CrashCount.{isIdle, countsAsCrash, crashCount}
 use Rattle.coordinator.specs.Run.{initial, withRound, runTo, runOf, crashesOf, endOf}
+use Rattle.coordinator.specs.MessagesBySender.{sentTo, dataBy, commitsBy}
 use Rattle.formats.specs.Digit.{digitValue, isDigit}
 use Rattle.formats.specs.Line.{scan, closed, unclosed, linesFrom, linesOf}
 use Rattle.formats.specs.FailureLine.{placesCrash, allBetween, suitsStep}
@@ -30,14 +33,17 @@ use Rattle.formats.specs.Accept.{unproposed, withProposal, withCrash, begin, st
 use Rattle.formats.specs.Reading.{accepted, proceed, readFrom}
 use Rattle.formats.specs.Ticket.{atEnd, readTicket}
 use Rattle.formats.specs.HexText.{digitOf, hexDigits, hexLine}
-use Rattle.formats.specs.ResultLine.{endBytes, processLine, lastLine, joined, resultLines, resultText, resultSize}
+use Rattle.formats.specs.ResultLine.{endBytes, processLine, lastLine, joined, lineBy, processLines, resultLines, resultText, resultSize}
 use Rattle.formats.specs.Running.{resultIn, running, bufferAfter}
-use Rattle.formats.specs.Code.{runCode}
-use Rattle.formats.specs.Table.{textOf, opening}
+use Rattle.formats.specs.Code.{refusalCode, runCode, RunCall}
+use Rattle.formats.specs.Table.{textOf, opening, case1}
 use Rattle.formats.proofs.LetteringCases.{lettering-cases}
 use Rattle.running.specs.Answer.{answerOf}
+use Rattle.demands.specs.OutputSays.{isProcessLine, sentIn, sentFrom, lineAt, sentSaid, countsOf}
+use Rattle.demands.specs.Written.{Wrote}
 use Rattle.demands.specs.PairedTexts.{CommitLine, PairedTexts, noLines, sameLine, countNoLower, missingLine}
-use Rattle.demands.specs.Witnesses.{crashText, mixedText, moreCommitsText, noCrashText, PairMet, RunMet, Witnesses}
+use Rattle.demands.specs.Witnesses.{crashText, mixedText, moreCommitsText, noCrashText, PairMet, RunMet, SentMet, sentAs, Witnesses}
+use Rattle.demands.proofs.Demand2.{demand-2}
 use Rattle.demands.proofs.LettersClaim.{run-met-alike}
 
 -- Case 1's instance, but for process 1's fault.
@@ -112,21 +118,43 @@ line-missing =
       decidesSecond = second-decides .2;
     }
 
--- The buffer of 100 bytes holds the result and, behind it, what stood there.
-written : RunMet crashText 85
-unfolding answerOf runCode running resultIn bufferAfter resultText resultLines joined lastLine processLine endBytes resultSize hexLine hexDigits digitOf crashText moreCommitsText noCrashText opening textOf ascii onesIn member ones64 number numberFrom bytesOf mapFrom pointFrom faultOf withinLimits arriving sends receives amongFirst reachAt reachIn reach stateOf crashesIn sentBy received afterOutcome after statesAfter isUndecided anyUndecided dataAt commitsAt countIn speaks dataIn commitsIn isIdle countsAsCrash crashCount initial withRound runTo runOf crashesOf digitValue isDigit scan closed unclosed linesFrom linesOf proceed readFrom isKind headerSays afterProposal proposalSays failureLine placesCrash allBetween suitsStep crashSays failureSays lineSays unproposed withProposal withCrash begin store accept atEnd readTicket
+-- The buffer of 120 bytes holds the result and, behind it, what stood there.
+written : RunMet crashText 101
+unfolding answerOf runCode running resultIn bufferAfter resultText resultLines joined lineBy processLines lastLine processLine endBytes resultSize hexLine hexDigits digitOf crashText moreCommitsText noCrashText opening textOf ascii onesIn member ones64 number numberFrom bytesOf mapFrom countOf addAt pointFrom faultOf withinLimits arriving sends receives amongFirst reachAt reachIn reach stateOf crashesIn sentBy received afterOutcome after statesAfter isUndecided anyUndecided dataAt commitsAt countIn speaks dataIn commitsIn isIdle countsAsCrash crashCount initial withRound runTo runOf sentTo dataBy commitsBy crashesOf digitValue isDigit scan closed unclosed linesFrom linesOf proceed readFrom isKind headerSays afterProposal proposalSays failureLine placesCrash allBetween suitsStep crashSays failureSays lineSays unproposed withProposal withCrash begin store accept atEnd readTicket
 written =
     record {
-      before = replicate 100 165;
-      after = bufferAfter (running crashText 100) (replicate 100 165);
+      before = replicate 120 165;
+      after = bufferAfter (running crashText 120) (replicate 120 165);
       ran = record { answered = refl; buffer = refl };
       called = record { call = record { answered = refl; buffer = refl }; small = omega arith };
     }
 
 -- So does running its text in mixed letters.
-written-mixed : RunMet mixedText 85
+written-mixed : RunMet mixedText 101
 unfolding crashText mixedText
-written-mixed = run-met-alike crashText mixedText (lettering-cases .acceptedTexts .same) 85 written
+written-mixed = run-met-alike crashText mixedText (lettering-cases .acceptedTexts .same) 101 written
+
+-- Its lines are those of case 1.
+crash-wrote : Wrote crashText crash (textOf (case1 .output))
+unfolding answerOf runCode running resultIn bufferAfter resultText resultLines joined lineBy processLines lastLine processLine endBytes resultSize hexLine hexDigits digitOf crashText moreCommitsText noCrashText opening textOf ascii onesIn member ones64 number numberFrom bytesOf mapFrom countOf addAt pointFrom faultOf withinLimits arriving sends receives amongFirst reachAt reachIn reach stateOf crashesIn sentBy received afterOutcome after statesAfter isUndecided anyUndecided dataAt commitsAt countIn speaks dataIn commitsIn isIdle countsAsCrash crashCount initial withRound runTo runOf sentTo dataBy commitsBy crashesOf digitValue isDigit scan closed unclosed linesFrom linesOf proceed readFrom isKind headerSays afterProposal proposalSays failureLine placesCrash allBetween suitsStep crashSays failureSays lineSays unproposed withProposal withCrash begin store accept atEnd readTicket four
+crash-wrote = record { read = texts-read .0; behind = []; front = refl }
+
+sent : SentMet crashText (textOf (case1 .output)) (sentAs 3 1 ∷ sentAs 2 2 ∷ sentAs 0 0 ∷ sentAs 0 0 ∷ none ∷ [])
+    (record { rounds = 2; crashes = 1; speakers = 2; dataSent = 5; commitsSent = 3 })
+unfolding answerOf runCode running resultIn bufferAfter resultText resultLines joined lineBy processLines lastLine processLine endBytes resultSize hexLine hexDigits digitOf crashText moreCommitsText noCrashText opening textOf ascii onesIn member ones64 number numberFrom bytesOf mapFrom countOf addAt pointFrom faultOf withinLimits arriving sends receives amongFirst reachAt reachIn reach stateOf crashesIn sentBy received afterOutcome after statesAfter isUndecided anyUndecided dataAt commitsAt countIn speaks dataIn commitsIn isIdle countsAsCrash crashCount initial withRound runTo runOf sentTo dataBy commitsBy crashesOf digitValue isDigit scan closed unclosed linesFrom linesOf proceed readFrom isKind headerSays afterProposal proposalSays failureLine placesCrash allBetween suitsStep crashSays failureSays lineSays unproposed withProposal withCrash begin store accept atEnd readTicket four lineAt isProcessLine sentIn sentFrom sentSaid countsOf
+sent =
+    record {
+      instance = crash;
+      wrote = crash-wrote;
+      said = record { each = demand-2 .sent crashText crash _ crash-wrote; all = demand-2 .result crashText crash _ crash-wrote .last };
+      each = refl;
+    }
+
+-- 100 bytes are one too few.
+short : RunCall crashText (replicate 100 165) (replicate 100 165) (refusalCode 9 0)
+unfolding answerOf runCode running resultIn bufferAfter resultText resultLines joined lineBy processLines lastLine processLine endBytes resultSize hexLine hexDigits digitOf crashText moreCommitsText noCrashText opening textOf ascii onesIn member ones64 number numberFrom bytesOf mapFrom countOf addAt pointFrom faultOf withinLimits arriving sends receives amongFirst reachAt reachIn reach stateOf crashesIn sentBy received afterOutcome after statesAfter isUndecided anyUndecided dataAt commitsAt countIn speaks dataIn commitsIn isIdle countsAsCrash crashCount initial withRound runTo runOf sentTo dataBy commitsBy crashesOf digitValue isDigit scan closed unclosed linesFrom linesOf proceed readFrom isKind headerSays afterProposal proposalSays failureLine placesCrash allBetween suitsStep crashSays failureSays lineSays unproposed withProposal withCrash begin store accept atEnd readTicket
+short = record { answered = refl; buffer = refl }
 
 pub witnesses : Witnesses
-witnesses = record { moreCommits = more-commits; lineMissing = line-missing; written = written; writtenMixed = written-mixed }
+witnesses =
+    record { moreCommits = more-commits; lineMissing = line-missing; written = written; writtenMixed = written-mixed; sent = sent; short = short }

@@ -1,30 +1,33 @@
--- What the bytes of an output say (document 01, 'The result'): how each process ended, and the run's counts, read off the bytes
--- alone. A line that is not as document 01 lays it out says nothing. What the rounds count, to which the bytes are held, is `countsOf`, the last.
+-- What the bytes of an output say (document 01, 'The result'; document 02, Paper 2): how each process ended, what it sent, and the run's counts, read off
+-- the bytes alone. A line that is not as the papers lay it out says nothing. What the rounds count, to which the bytes are held, are `countsOf` and `sentOf`,
+-- at the end.
 use mathlib.Core.List.{List}
 use mathlib.Core.Path.{_≡_}
 use mathlib.Core.Option.{Option, some, none}
 use Prim.Native.Nat.{ℕ, _-_}
-use mathlib.Core.Bool.{Bool, cond, _&&_}
+use mathlib.Core.Bool.{Bool, cond, _&&_, _||_}
 use lib.Dec.{eqb}
 use lib.ListN.{getD, take, drop}
 use Rattle.general.specs.BigEndian.{number}
+use Rattle.general.specs.Counts.{countOf}
 use Rattle.consensus.specs.Instance.{Instance}
 use Rattle.consensus.specs.State.{State, decided, crashed}
 use Rattle.coordinator.specs.Run.{runOf, crashesOf}
+use Rattle.coordinator.specs.MessagesBySender.{dataBy, commitsBy}
 use Rattle.consensus.specs.Consensus.{IsProcess}
 use Rattle.formats.specs.Line.{Line, bytes, noLine, linesOf}
 use Rattle.formats.specs.Says.{isKind}
 
--- A station line of process p with this end: 11, station, end, round, value (4 bytes).
+-- A station line of process p with this end: 11, station, end, round, value (4 bytes), data, commits.
 unfoldable pub isProcessLine : (p end : ℕ) → List ℕ → Bool
-isProcessLine p end b = isKind 0x11 8 b && eqb (getD b 1 0) p && eqb (getD b 2 0) end
+isProcessLine p end b = isKind 0x11 10 b && eqb (getD b 1 0) p && eqb (getD b 2 0) end
 
 -- The round and the value of such a line.
 abbrev pub roundIn : List ℕ → ℕ
 roundIn b = getD b 3 0
 
 abbrev pub valueIn : List ℕ → ℕ
-valueIn b = number (drop 4 b)
+valueIn b = number (take 4 (drop 4 b))
 
 -- How process p ended by the bytes of its line: with end 01 it decided; with end 02, and 0 for a value, it crashed.
 unfoldable pub endIn : (p : ℕ) → List ℕ → Option State
@@ -36,6 +39,18 @@ endIn p b =
 unfoldable pub endFrom : ℕ → Line → Option State
 endFrom p (bytes b) = endIn p b
 endFrom p noLine = none
+
+-- What a process sent: the data and the commits of its line, whether it decided or crashed.
+pub record Sent : Type 0 where
+  pub dataSent : ℕ
+  pub commitsSent : ℕ
+
+unfoldable pub sentIn : (p : ℕ) → List ℕ → Option Sent
+sentIn p b = cond (isProcessLine p 1 b || isProcessLine p 2 b) (some (record { dataSent = getD b 8 0; commitsSent = getD b 9 0 })) none
+
+unfoldable pub sentFrom : ℕ → Line → Option Sent
+sentFrom p (bytes b) = sentIn p b
+sentFrom p noLine = none
 
 -- What the last line counts: 12, rounds, f, speakers, data (2 bytes), commits (2 bytes).
 pub record Counts : Type 0 where
@@ -66,9 +81,12 @@ countsFrom noLine = none
 unfoldable pub lineAt : (out : List ℕ) → (k : ℕ) → Line
 lineAt out k = getD (linesOf out) k noLine
 
--- How process p ended: the p-th line is its station line.
+-- How process p ended, and what it sent: the p-th line is its station line.
 unfoldable pub endSaid : (out : List ℕ) → (p : ℕ) → Option State
 endSaid out p = endFrom p (lineAt out (p - 1))
+
+unfoldable pub sentSaid : (out : List ℕ) → (p : ℕ) → Option Sent
+sentSaid out p = sentFrom p (lineAt out (p - 1))
 
 -- The counts of a result of n processes: line n + 1 is the last line.
 unfoldable pub countsSaid : (out : List ℕ) → (n : ℕ) → Option Counts
@@ -101,3 +119,7 @@ countsOf x =
       dataSent = runOf x .dataSent;
       commitsSent = runOf x .commitsSent;
     }
+
+-- What is counted of the messages that process p sends in them.
+unfoldable pub sentOf : Instance → ℕ → Sent
+sentOf x p = record { dataSent = countOf (dataBy x) p; commitsSent = countOf (commitsBy x) p }

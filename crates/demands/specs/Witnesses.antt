@@ -1,15 +1,21 @@
--- The premises of the claims can be met: case 1 (document 01, 'Worked runs') is run, as it stands and in mixed letters, and paired with case 3 and with itself
--- without its failure line. (What else is answered on case 1 in mixed letters, and on refused texts in two letterings: formats/specs/LetteringCases.)
-use mathlib.Core.List.{List, [], _∷_, _++_}
+-- The premises of the claims can be met: case 1 (document 01, 'Worked runs') is run, as it stands, in mixed letters and into a buffer that is too short, and
+-- paired with case 3 and with itself without its failure line; its lines say what each process sent. (What else is answered on case 1 in mixed letters, and on refused texts in two letterings: formats/specs/LetteringCases.)
+use mathlib.Core.List.{List, [], _∷_, _++_, map}
+use mathlib.Core.Option.{Option, some, none}
+use mathlib.Core.Path.{_≡_}
 use Prim.Native.Nat.{ℕ}
+use lib.ListN.{replicate}
 use Rattle.consensus.specs.Instance.{Instance}
 use Rattle.consensus.specs.Consensus.{Decides}
 use Rattle.coordinator.specs.Run.{endOf}
 use Rattle.formats.specs.Table.{textOf, opening, case1, case3}
 use Rattle.formats.specs.LetterRuns.{case1Mixed}
+use Rattle.formats.specs.Code.{refusalCode, RunCall}
 use Rattle.running.specs.Answer.{Ran}
 use Rattle.running.specs.declared.RunAnswer.the-variants.{Written}
-use Rattle.demands.specs.Written.{CallWrote}
+use Rattle.demands.specs.OutputSays.{Sent, Counts, sentSaid, sentOf}
+use Rattle.demands.specs.Written.{Wrote, CallWrote}
+use Rattle.demands.specs.SenderClaim.{MessagesSaid}
 use Rattle.demands.specs.PairedTexts.{PairedTexts}
 use Rattle.demands.specs.Demand3.{PairedInstances}
 
@@ -42,8 +48,23 @@ pub record RunMet (text : List ℕ) (size : ℕ) : Type 0 where
   pub ran : Ran text before after (Written size)
   pub called : CallWrote text before after size
 
+-- A text is accepted and its result is `out`, whose lines say what each process sent and what all did; what the first lines say of processes 1, 2 and so on.
+pub record SentMet (text out : List ℕ) (rows : List (Option Sent)) (counts : Counts) : Type 0 where
+  pub instance : Instance
+  pub wrote : Wrote text instance out
+  pub said : MessagesSaid instance out (sentOf instance) counts
+  pub each : map (sentSaid out) (1 ∷ 2 ∷ 3 ∷ 4 ∷ 5 ∷ []) ≡ rows
+
+abbrev pub sentAs : (dataSent commitsSent : ℕ) → Option Sent
+sentAs dataSent commitsSent = some (record { dataSent = dataSent; commitsSent = commitsSent })
+
 pub record Witnesses : Type 0 where
   pub moreCommits : PairMet crashText moreCommitsText 2 1
   pub lineMissing : PairMet crashText noCrashText 2 1
-  pub written : RunMet crashText 85
-  pub writtenMixed : RunMet mixedText 85
+  pub written : RunMet crashText 101
+  pub writtenMixed : RunMet mixedText 101
+  -- the last line is no station line
+  pub sent : SentMet crashText (textOf (case1 .output)) (sentAs 3 1 ∷ sentAs 2 2 ∷ sentAs 0 0 ∷ sentAs 0 0 ∷ none ∷ [])
+      (record { rounds = 2; crashes = 1; speakers = 2; dataSent = 5; commitsSent = 3 })
+  -- and a buffer of 100 bytes is too short for it
+  pub short : RunCall crashText (replicate 100 165) (replicate 100 165) (refusalCode 9 0)

@@ -8,6 +8,7 @@ use lib.ListN.{replicate, getD}
 use Rattle.general.specs.Bits.{member, ones64}
 use Rattle.general.specs.BigEndian.{number, numberFrom, bytesOf}
 use Rattle.general.specs.Indexed.{mapFrom}
+use Rattle.general.specs.Counts.{countOf, addAt}
 use Rattle.general.specs.Text.{ascii}
 use Rattle.consensus.specs.Instance.{pointFrom, faultOf, withinLimits}
 use Rattle.coordinator.specs.Message.{arriving}
@@ -17,6 +18,7 @@ use Rattle.consensus.specs.State.{stateOf, crashesIn}
 use Rattle.coordinator.specs.Round.{sentBy, received, afterOutcome, after, statesAfter}
 use Rattle.coordinator.specs.Undecided.{isUndecided, anyUndecided}
 use Rattle.coordinator.specs.Run.{initial, withRound, runTo, runOf, crashesOf}
+use Rattle.coordinator.specs.MessagesBySender.{sentTo, dataBy, commitsBy}
 use Rattle.formats.specs.Digit.{digitValue, isDigit}
 use Rattle.formats.specs.Line.{scan, closed, unclosed, linesFrom, linesOf}
 use Rattle.formats.specs.FailureLine.{placesCrash, allBetween, suitsStep}
@@ -28,7 +30,7 @@ use Rattle.coordinator.specs.Count.{dataAt, commitsAt, countIn, speaks, dataIn,
 use Rattle.consensus.specs.CrashCount.{isIdle, countsAsCrash, crashCount}
 use Rattle.formats.specs.Reading.{Reading, accepted, refused, proceed, readFrom}
 use Rattle.formats.specs.Ticket.{atEnd, readTicket}
-use Rattle.formats.specs.ResultLine.{endBytes, processLine, lastLine, joined, resultLines, resultText, resultSize}
+use Rattle.formats.specs.ResultLine.{endBytes, processLine, lastLine, joined, lineBy, processLines, resultLines, resultText, resultSize}
 use Rattle.formats.specs.Running.{resultIn, running, bufferAfter}
 use Rattle.formats.specs.Settle.{Settles}
 use Rattle.formats.specs.Code.{refusalCode, runCode, settleCode, SettlesAs}
@@ -52,18 +54,18 @@ different a b i other e = other (ap (λ (l : List ℕ). getD l i 0) e)
 settles-so : (text : List ℕ) (answer : Reading ℕ) → Settles (readTicket text) answer → SettlesAs text (settleCode answer)
 settles-so text answer right = record { answer = answer; settles = right; coded = refl }
 
--- A buffer of 100 bytes.
+-- A buffer of 120 bytes.
 abbrev buffer : List ℕ
-buffer = replicate 100 165
+buffer = replicate 120 165
 
-accepted-texts : TwoLetterings (textOf (case1 .ticket)) (textOf (case1Mixed .ticket)) 85 1
-unfolding EqualUpToCase capital Settles settleCode bufferAfter valuesHeld allAre oneValue qualifies runCode textOf ascii onesIn member ones64 number numberFrom bytesOf mapFrom pointFrom faultOf withinLimits arriving sends receives amongFirst reachAt reachIn reach stateOf crashesIn sentBy received afterOutcome after statesAfter isUndecided anyUndecided dataAt commitsAt countIn speaks dataIn commitsIn isIdle countsAsCrash crashCount initial withRound runTo runOf crashesOf digitValue isDigit scan closed unclosed linesFrom linesOf proceed readFrom isKind headerSays afterProposal proposalSays failureLine placesCrash allBetween suitsStep crashSays failureSays lineSays unproposed withProposal withCrash begin store accept atEnd readTicket digitOf hexDigits hexLine endBytes processLine lastLine joined resultLines resultText resultSize resultIn running
+accepted-texts : TwoLetterings (textOf (case1 .ticket)) (textOf (case1Mixed .ticket)) 101 1
+unfolding EqualUpToCase capital Settles settleCode bufferAfter valuesHeld allAre oneValue qualifies runCode textOf ascii onesIn member ones64 number numberFrom bytesOf mapFrom countOf addAt pointFrom faultOf withinLimits arriving sends receives amongFirst reachAt reachIn reach stateOf crashesIn sentBy received afterOutcome after statesAfter isUndecided anyUndecided dataAt commitsAt countIn speaks dataIn commitsIn isIdle countsAsCrash crashCount initial withRound runTo runOf sentTo dataBy commitsBy crashesOf digitValue isDigit scan closed unclosed linesFrom linesOf proceed readFrom isKind headerSays afterProposal proposalSays failureLine placesCrash allBetween suitsStep crashSays failureSays lineSays unproposed withProposal withCrash begin store accept atEnd readTicket digitOf hexDigits hexLine endBytes processLine lastLine joined lineBy processLines resultLines resultText resultSize resultIn running
 accepted-texts =
     record {
       differ = different (textOf (case1 .ticket)) (textOf (case1Mixed .ticket)) 18 (λ e. omega arith);
       same = refl;
       before = buffer;
-      after = bufferAfter (running (textOf (case1 .ticket)) 100) buffer;
+      after = bufferAfter (running (textOf (case1 .ticket)) 120) buffer;
       first = record { answered = refl; buffer = refl };
       second = record { answered = refl; buffer = refl };
       firstSettles = settles-so (textOf (case1 .ticket)) (accepted 1) refl;

@@ -1,11 +1,12 @@
 -- What is told of a refused text: the line that the program writes for it (document 01, 'The result': "A refusal is the one line 1F, number, line"), and
--- the number that a C caller is answered (docs/DECISIONS.md, S5).
+-- the number that a C caller is answered (docs/DECISIONS.md, S5); and the room without which running is refused.
 use mathlib.Core.List.{List, [], _∷_, _++_, map}
 use mathlib.Core.Path.{_≡_}
-use Prim.Native.Nat.{ℕ}
+use Prim.Native.Nat.{ℕ, _+_, _*_}
 use Prim.Native.String.{String}
 use lib.ListN.{length, replicate}
 use Rattle.general.specs.Text.{ascii}
+use Rattle.formats.specs.ResultLine.{resultSize}
 use Rattle.formats.specs.Running.{running, programWrites}
 use Rattle.formats.specs.Code.{placedCode, runCode}
 use Rattle.formats.specs.Table.{textOf, case1, case10Passes, case12}
@@ -37,6 +38,11 @@ pub record RefusalCases : Type 0 where
 -- ticket of several.
 unfoldable pub CodeCases : Type 0
 CodeCases =
-    runCode (running (textOf (case12 .ticket)) 0) ∷ runCode (running (textOf (case1 .ticket)) 84) ∷ runCode (running (textOf (case1 .ticket)) 85)
+    runCode (running (textOf (case12 .ticket)) 0) ∷ runCode (running (textOf (case1 .ticket)) 100) ∷ runCode (running (textOf (case1 .ticket)) 101)
     ∷ placedCode 2 8 6 ∷ []
-    ≡ 524294 ∷ 589824 ∷ 85 ∷ 8590458886 ∷ []
+    ≡ 524294 ∷ 589824 ∷ 101 ∷ 8590458886 ∷ []
+
+-- The room that a result needs (document 02, Paper 2: "Refusal 9 now means output shorter than 21n + 17 bytes"), and the most that one has.
+pub record ResultSizes : Type 0 where
+  pub needed : (n : ℕ) → resultSize n ≡ 21 * n + 17
+  pub most : resultSize 64 ≡ 1361

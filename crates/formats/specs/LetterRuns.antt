@@ -13,19 +13,19 @@ case1Mixed =
 abbrev pub smallFirst : Case
 smallFirst =
     caseOf 19 ("010100" ∷ "0201aBcDeF09" ∷ "04" ∷ [])
-    ("11010101ABCDEF09" ∷ "1201000100000000" ∷ [])
+    ("11010101ABCDEF090000" ∷ "1201000100000000" ∷ [])
 
 abbrev pub smallLast : Case
 smallLast =
     caseOf 20 ("010100" ∷ "0201AbCdEf09" ∷ "04" ∷ [])
-    ("11010101ABCDEF09" ∷ "1201000100000000" ∷ [])
+    ("11010101ABCDEF090000" ∷ "1201000100000000" ∷ [])
 
 -- A ticket as the planner's export writes it (examples/export.ticket): the data of process 1 reaches processes 2 and 4, two commits of process 2 leave.
 abbrev pub export : Case
 export =
     caseOf 21 ("010502" ∷ "020103e801f4" ∷ "020204b0028a" ∷ "0203038401c2" ∷ "020405dc02ee" ∷ "0205044c0226"
     ∷ "03010101000000000000000a00" ∷ "03020202000000000000000002" ∷ "04" ∷ [])
-    ("1101020100000000" ∷ "1102020200000000" ∷ "1103010303E801F4" ∷ "1104010203E801F4" ∷ "1105010203E801F4" ∷ "1203020300070004" ∷ [])
+    ("11010201000000000200" ∷ "11020202000000000302" ∷ "1103010303E801F40202" ∷ "1104010203E801F40000" ∷ "1105010203E801F40000" ∷ "1203020300070004" ∷ [])
 
 unfoldable pub letterRuns : List Case
 letterRuns = case1Mixed ∷ smallFirst ∷ smallLast ∷ export ∷ []

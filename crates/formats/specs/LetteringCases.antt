@@ -21,8 +21,8 @@ pub record TwoLetterings (a b : List ℕ) (code settled : ℕ) : Type 0 where
   pub secondSettles : SettlesAs b settled
 
 pub record LetteringCases : Type 0 where
-  -- case 1 and its text in mixed letters: the 85 bytes of its result, settled in round 1
-  pub acceptedTexts : TwoLetterings (textOf (case1 .ticket)) (textOf (case1Mixed .ticket)) 85 1
+  -- case 1 and its text in mixed letters: the 101 bytes of its result, settled in round 1
+  pub acceptedTexts : TwoLetterings (textOf (case1 .ticket)) (textOf (case1Mixed .ticket)) 101 1
   -- G and g, which are no digits: refusal 2 at line 1
   pub refusedTexts : TwoLetterings (textOf ("01040G" ∷ [])) (textOf ("01040g" ∷ [])) (refusalCode 2 1) (refusalCode 2 1)
   -- a small letter is seen

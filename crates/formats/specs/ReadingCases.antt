@@ -183,8 +183,8 @@ pub record ReadingCases : Type 0 where
   pub rows : length readingRows ≡ 97
   pub answered : map (λ (row : Row). verdictOf (readTicket (row .0))) readingRows ≡ map (λ (row : Row). row .1) readingRows
 
--- A text, the room for its result, and what running answers. Refusal 9, of no line, is looked at after all lines: 17(n + 1) bytes are enough and one less
--- is not.
+-- A text, the room for its result, and what running answers. Refusal 9, of no line, is looked at after all lines: 21n + 17 bytes are enough (document 02,
+-- Paper 2) and one less is not.
 pub record RoomRow : Type 0 where
   pub text : List ℕ
   pub room : ℕ
@@ -192,10 +192,10 @@ pub record RoomRow : Type 0 where
 
 unfoldable pub roomRows : List RoomRow
 roomRows =
-    record { text = textOf (case2 .ticket); room = 34; verdict = passes }
-    ∷ record { text = textOf (case2 .ticket); room = 33; verdict = refusedWith 9 0 }
-    ∷ record { text = textOf (case1 .ticket); room = 85; verdict = passes }
-    ∷ record { text = textOf (case1 .ticket); room = 84; verdict = refusedWith 9 0 }
+    record { text = textOf (case2 .ticket); room = 38; verdict = passes }
+    ∷ record { text = textOf (case2 .ticket); room = 37; verdict = refusedWith 9 0 }
+    ∷ record { text = textOf (case1 .ticket); room = 101; verdict = passes }
+    ∷ record { text = textOf (case1 .ticket); room = 100; verdict = refusedWith 9 0 }
     ∷ record { text = afterOpening []; room = 0; verdict = refusedWith 3 6 }
     ∷ []
 

@@ -3,9 +3,11 @@ use mathlib.Core.List.{List, [], _∷_, _++_}
 use Prim.Native.Nat.{ℕ, _+_, _*_}
 use Rattle.general.specs.BigEndian.{bytesOf}
 use Rattle.general.specs.Indexed.{mapFrom}
+use Rattle.general.specs.Counts.{countOf}
 use Rattle.consensus.specs.Instance.{Instance}
 use Rattle.consensus.specs.State.{State, undecided, decided, crashed}
 use Rattle.coordinator.specs.Run.{Run, runOf, crashesOf}
+use Rattle.coordinator.specs.MessagesBySender.{dataBy, commitsBy}
 use Rattle.formats.specs.HexText.{hexLine, lineSize}
 
 -- The end of a process (01 decided, 02 dark), the round of it, and the value, 0 if dark. No process is left undecided by the run of an accepted ticket,
@@ -15,9 +17,9 @@ endBytes (undecided v) = 0 ∷ 0 ∷ bytesOf 4 v
 endBytes (decided round v) = 1 ∷ round ∷ bytesOf 4 v
 endBytes (crashed round) = 2 ∷ round ∷ bytesOf 4 0
 
--- 11, station, end, round, value (4 bytes).
-unfoldable pub processLine : (p : ℕ) → State → List ℕ
-processLine p s = hexLine (0x11 ∷ p ∷ endBytes s)
+-- 11, station, end, round, value (4 bytes), and the data and the commits that the station sent, be it decided or dark (document 02, Paper 2).
+unfoldable pub processLine : (p : ℕ) → State → (dataSent commitsSent : ℕ) → List ℕ
+processLine p s dataSent commitsSent = hexLine (0x11 ∷ p ∷ endBytes s ++ (dataSent ∷ commitsSent ∷ []))
 
 -- 12, rounds, f, speakers, data (2 bytes), commits (2 bytes).
 unfoldable pub lastLine : Run → (f : ℕ) → List ℕ
@@ -28,17 +30,25 @@ unfoldable pub joined : List (List ℕ) → List ℕ
 joined [] = []
 joined (line ∷ lines) = line ++ joined lines
 
--- The result of a run: a line for each process in order, and the last line.
-unfoldable pub resultLines : Run → (f : ℕ) → List ℕ
-resultLines run f = joined (mapFrom processLine 1 (run .states)) ++ lastLine run f
+-- The line of process p in this state, by the messages that each process sent.
+unfoldable pub lineBy : (dataCounts commitCounts : List ℕ) → (p : ℕ) → State → List ℕ
+lineBy dataCounts commitCounts p s = processLine p s (countOf dataCounts p) (countOf commitCounts p)
+
+-- The lines of all processes in order.
+unfoldable pub processLines : (dataCounts commitCounts : List ℕ) → List State → List ℕ
+processLines dataCounts commitCounts states = joined (mapFrom (lineBy dataCounts commitCounts) 1 states)
+
+-- The result of a run in which each process sent so much: these lines, and the last one.
+unfoldable pub resultLines : Run → (dataCounts commitCounts : List ℕ) → (f : ℕ) → List ℕ
+resultLines run dataCounts commitCounts f = processLines dataCounts commitCounts (run .states) ++ lastLine run f
 
 -- The result of an instance.
 unfoldable pub resultText : Instance → List ℕ
-resultText x = resultLines (runOf x) (crashesOf x)
+resultText x = resultLines (runOf x) (dataBy x) (commitsBy x) (crashesOf x)
 
--- The length of a process's line, which has 8 bytes, and of the last line, which has 8 too.
+-- The length of a process's line, which has 10 bytes, and of the last line, which has 8.
 abbrev pub processLineSize : ℕ
-processLineSize = lineSize 8
+processLineSize = lineSize 10
 
 abbrev pub lastLineSize : ℕ
 lastLineSize = lineSize 8

@@ -4,6 +4,8 @@ pub mod Bytes
 pub mod BigEndian
 pub mod Bits
 pub mod Indexed
+pub mod Counts
+pub mod CountCases
 pub mod Table
 pub mod Sets
 pub mod Filling

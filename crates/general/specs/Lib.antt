@@ -1,4 +1,6 @@
 pub mod Indexed
+pub mod Counts
+pub mod CountCases
 pub mod Table
 pub mod Bits
 pub mod BigEndian

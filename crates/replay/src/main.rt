@@ -14,7 +14,7 @@ use running::RunAnswer;
 const TICKET_ROOM: usize = 4200;
 
 // The longest output buffer: some more than the result of 64 processes takes.
-const OUTPUT_ROOM: usize = 1200;
+const OUTPUT_ROOM: usize = 1500;
 
 // What an output buffer holds before a call: a byte that no result has.
 const FILLING: u8 = 165;

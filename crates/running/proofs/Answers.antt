@@ -1,15 +1,16 @@
 -- One law for each answer of running and settling, over plain variables. Assumes nothing.
 use mathlib.Core.List.{List, _++_}
-use mathlib.Core.Path.{_≡_, refl, sym, ap, ap₂, _∙_}
+use mathlib.Core.Path.{_≡_, refl, sym, ap, _∙_}
 use Prim.Native.Nat.{ℕ, _≤_, _<_}
 use native.Mathlib.Omega.{arith}
 use borrow.Author.Tests.{lt-ltb, le-ltb, ltb-true, ltb-false}
 use mathlib.Core.Bool.{Bool, true, false}
 use lib.Dec.{ltb}
-use lib.ListN.{length, drop}
+use lib.ListN.{length, take, drop}
 use Rattle.consensus.specs.Instance.{Instance}
 use Rattle.consensus.specs.CrashCount.{crashCount}
-use Rattle.coordinator.specs.Run.{Run, runOf, crashesOf}
+use Rattle.coordinator.specs.Run.{Run, runTo, runOf, lastRound, crashesOf}
+use Rattle.coordinator.specs.MessagesBySender.{dataBy, commitsBy}
 use Rattle.coordinator.specs.Settling.{qualifies}
 use Rattle.coordinator.proofs.Settled.{settled-at-last}
 use Rattle.tables.specs.InstanceOfTable.{instanceOf}
@@ -24,6 +25,7 @@ use Rattle.formats.proofs.ResultLength.{length-text}
 use Rattle.formats.specs.Running.{resultIn, running, bufferAfter}
 use Rattle.formats.specs.Settle.{Settles}
 use Rattle.coordinator_run.specs.CrashCountOver.{crashCountOver}
+use Rattle.coordinator_run.specs.Running.{RunOf}
 use Rattle.coordinator_run.proofs.Crashes.{counts-by-rounds}
 use Rattle.running.specs.Answer.{answerOf, Ran}
 use Rattle.running.specs.Settling.{settlingOf}
@@ -72,19 +74,21 @@ module _ (text before : List ℕ) where
         }
 
 -- What is written of the code's run and its f is the instance's result.
-pub run-written : (table : InstanceTable) (before after : List ℕ) (run : RunTable) (f : ℕ) → runFrom (table .n) run ≡ runOf (instanceOf table)
+pub run-written : (table : InstanceTable) (before after : List ℕ) (run : RunTable) (dataCounts commitCounts : List ℕ) (f : ℕ)
+    → RunOf (instanceOf table) (table .n) run dataCounts commitCounts
     → f ≡ crashCountOver (table .n) (table .«crash_rounds») (run .ends) (run .«end_rounds»)
-    → after ≡ resultLines (runFrom (table .n) run) f ++ drop (resultSize (table .n)) before
+    → after ≡ resultLines (runFrom (table .n) run) (take (table .n) dataCounts) (take (table .n) commitCounts) f ++ drop (resultSize (table .n)) before
     → after ≡ resultText (instanceOf table) ++ drop (resultSize (table .n)) before
-unfolding resultText crashesOf runOver
-run-written table before after run f same counted stored =
-    let crashes = counted ∙ counts-by-rounds table run ∙ ap (λ (r : Run). crashCount (instanceOf table .pattern) (r .states)) same in
-    stored ∙ ap (λ (l : List ℕ). l ++ drop (resultSize (table .n)) before) (ap₂ resultLines same crashes)
+unfolding resultText crashesOf runOver runOf dataBy commitsBy
+run-written table before after run dataCounts commitCounts f ran counted stored =
+    let crashes = counted ∙ counts-by-rounds table run ∙ ap (λ (r : Run). crashCount (instanceOf table .pattern) (r .states)) (ran .run) in
+    stored ∙ rw (ran .run, ran .dataSent, ran .commitsSent, crashes)
 
 -- The run's last round qualifies.
 pub settles-last : (text : List ℕ) (table : InstanceTable) (run : RunTable) → readTicket text ≡ accepted (instanceOf table)
-    → runFrom (table .n) run ≡ runOf (instanceOf table) → Settles (readTicket text) (settlingOf (SettleAnswer.Round (run .rounds)))
-unfolding Settles settlingOf runOver
+    → runFrom (table .n) run ≡ runTo (instanceOf table) (lastRound (instanceOf table))
+    → Settles (readTicket text) (settlingOf (SettleAnswer.Round (run .rounds)))
+unfolding Settles settlingOf runOver runOf
 settles-last text table run read same =
     rw read
     (ap (qualifies (instanceOf table)) (ap (λ (r : Run). r .rounds) same)

@@ -43,7 +43,19 @@ fn write_run<'a>(
         ≡ resultText (instanceOf (tableOf n t values (now («crash_rounds» .entry)) (now (steps .entry)) (now (reached .entry)) (now (counts .entry))))
         ++ drop (resultSize n) (now (out .entry)) ⌝ }
 {
-    let run = coordinator_run::run_all(n, t, values, crash_rounds, steps, reached, counts);
+    let mut data_by = [0u8; 64];
+    let mut commits_by = [0u8; 64];
+    let run = coordinator_run::run_all(
+        n,
+        t,
+        values,
+        crash_rounds,
+        steps,
+        reached,
+        counts,
+        &mut data_by,
+        &mut commits_by,
+    );
     let f = coordinator_run::crash_count(n, crash_rounds, &run.ends, &run.end_rounds);
     result::write_result(
         out,
@@ -51,6 +63,8 @@ fn write_run<'a>(
         &run.ends,
         &run.end_rounds,
         &run.values,
+        &data_by,
+        &commits_by,
         run.rounds,
         f,
         run.speakers,
@@ -113,6 +127,8 @@ pub fn settle(text: &[u8]) -> SettleAnswer
     }
     let table = read.table;
     let values = table.values;
+    let mut data_by = [0u8; 64];
+    let mut commits_by = [0u8; 64];
     let run = coordinator_run::run_all(
         table.n,
         table.t,
@@ -121,6 +137,8 @@ pub fn settle(text: &[u8]) -> SettleAnswer
         &table.steps,
         &table.reached,
         &table.counts,
+        &mut data_by,
+        &mut commits_by,
     );
     SettleAnswer::Round(run.rounds)
 }

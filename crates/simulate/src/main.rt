@@ -13,7 +13,7 @@ use running::RunAnswer;
 // Room for a ticket and one byte more (document 01: at most 4,096 bytes), and for the result of 64 processes.
 const TICKET_ROOM: usize = 4097;
 
-const RESULT_ROOM: usize = 1105;
+const RESULT_ROOM: usize = 1361;
 
 // What standard input held.
 enum Input {

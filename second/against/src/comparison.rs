@@ -5,10 +5,10 @@ use std::fmt;
 
 use second::generate;
 use second::interface::{Agreement, REFUSED};
-use second::report::{process_line, result_length, write_line, LINE_LENGTH};
+use second::report::{process_line, result_length, write_line};
+use second::report::{LAST_LINE_LENGTH, LONGEST_RESULT, PROCESS_LINE_LENGTH};
 use second::rng::Rng;
 use second::separate::run_separately;
-use second::ticket::MOST_PROCESSES;
 use second::{Simulator, Ticket};
 
 /// Bytes kept behind each lent buffer, to see that nobody writes there.
@@ -27,6 +27,8 @@ pub struct Counts {
     pub settlings: u64,
     /// Runs by separate local parts.
     pub separate_runs: u64,
+    /// Results of the module under test whose counts by process were added up.
+    pub added_up: u64,
     /// Tickets, of those above, with each of the 256 bytes in place of another.
     pub with_each_byte: u64,
     /// Tickets that the module under test ran and settled in other letters too.
@@ -44,15 +46,16 @@ impl fmt::Display for Counts {
         write!(
             f,
             "{} tickets ({} accepted, {} refused) in {} runs, {} settlings, \
-             {} runs by separate parts; {} of these tickets with each of the 256 bytes in place \
-             of another; {} of these tickets in other letters too; \
-             {} starts, {} speeches, {} closings",
+             {} runs by separate parts, {} results added up; \
+             {} of these tickets with each of the 256 bytes in place of another; \
+             {} of these tickets in other letters too; {} starts, {} speeches, {} closings",
             self.accepted + self.refused,
             self.accepted,
             self.refused,
             self.runs,
             self.settlings,
             self.separate_runs,
+            self.added_up,
             self.with_each_byte,
             self.in_other_letters,
             self.starts,
@@ -125,15 +128,13 @@ fn first_difference(under_test: &[u8], other: &[u8], in_other: &str) -> String {
 /// The first result line that differs after two equal answers, or else the
 /// first byte.
 fn differing_line(under_test: &[u8], other: &[u8], written: u64, in_other: &str) -> String {
-    let lines = under_test.chunks_exact(LINE_LENGTH);
-    let pairs = lines.zip(other.chunks_exact(LINE_LENGTH));
-    let count = written as usize / LINE_LENGTH;
-    match pairs.take(count).find(|(line, other)| line != other) {
-        Some((line, other)) => format!(
-            "a line is {}, {in_other} {}",
-            line.trim_ascii_end().escape_ascii(),
-            other.trim_ascii_end().escape_ascii()
-        ),
+    let written = under_test.len().min(written as usize);
+    let [lines, others] =
+        [under_test, other].map(|output| output[..written].split(|&byte| byte == b'\n'));
+    match lines.zip(others).find(|(line, other)| line != other) {
+        Some((line, other)) => {
+            format!("a line is {}, {in_other} {}", line.escape_ascii(), other.escape_ascii())
+        }
         None => first_difference(under_test, other, in_other),
     }
 }
@@ -161,6 +162,17 @@ fn run_into(module: &mut impl Agreement, text: &[u8], room: usize, fill: u8) -> 
     let mut output = filled(room, fill);
     let answer = module.run(text, &mut output[..room]);
     (answer, output)
+}
+
+/// The number that `bytes` bytes of a line make from byte `place` on; nothing if
+/// they are not digits as results have them.
+fn number_at(line: &[u8], place: usize, bytes: usize) -> Option<u64> {
+    let mut digits = line.get(2 * place..2 * (place + bytes))?.iter();
+    digits.try_fold(0, |number, &digit| match digit {
+        b'0'..=b'9' => Some(16 * number + u64::from(digit - b'0')),
+        b'A'..=b'F' => Some(16 * number + u64::from(digit - b'A') + 10),
+        _ => None,
+    })
 }
 
 /// The text in other letters, if it has any; equal texts give equal ones.
@@ -191,7 +203,7 @@ impl<M: Agreement> Comparison<M> {
     }
 
     /// Everything about one ticket: runs with output buffers of the lengths
-    /// `rooms`, settling, and separate local parts.
+    /// `rooms`, settling, separate local parts, and the sums of the counts.
     pub fn ticket(&mut self, text: &[u8], rooms: &[usize]) -> Result<(), Difference> {
         let differs = |what| Difference::Ticket { text: text.to_vec(), what };
         for &room in rooms {
@@ -201,7 +213,10 @@ impl<M: Agreement> Comparison<M> {
         match Ticket::parse(text) {
             Ok(ticket) => {
                 self.counts.accepted += 1;
-                self.separate_run(&ticket, text).map_err(differs)
+                let (_, output) = run_into(&mut self.module, text, LONGEST_RESULT, 0);
+                let result = &output[..result_length(ticket.n)];
+                self.separate_run(&ticket, result).map_err(differs)?;
+                self.add_up(result).map_err(differs)
             }
             Err(_) => {
                 self.counts.refused += 1;
@@ -260,22 +275,37 @@ impl<M: Agreement> Comparison<M> {
         Err(differs(format!("settling answers {round}, {IN_LETTERS} {other_round}")))
     }
 
-    /// Separate local parts against the lines of the module's own run.
-    fn separate_run(&mut self, ticket: &Ticket, text: &[u8]) -> Result<(), String> {
+    /// Separate local parts against the lines of the module's own result: the
+    /// ends, and the counts of what left each part.
+    fn separate_run(&mut self, ticket: &Ticket, result: &[u8]) -> Result<(), String> {
         self.counts.separate_runs += 1;
-        let mut output = [0; LINE_LENGTH * (MOST_PROCESSES as usize + 1)];
-        self.module.run(text, &mut output);
         let ends = run_separately(&mut self.module, ticket)?;
-        let lines = output.chunks_exact(LINE_LENGTH);
-        for ((id, (status, value)), line) in (1..).zip(ends).zip(lines) {
-            let mut separate = [0; LINE_LENGTH];
-            write_line(process_line(id, status, value), &mut separate);
+        let lines = result.chunks_exact(PROCESS_LINE_LENGTH);
+        for ((id, end), line) in (1..).zip(ends).zip(lines) {
+            let mut separate = [0; PROCESS_LINE_LENGTH];
+            write_line(&process_line(id, end.status, end.value, end.sent), &mut separate);
             if separate != line {
                 return Err(format!(
                     "process {id} on its own ends with {}, in the run with {}",
                     separate.trim_ascii_end().escape_ascii(),
                     line.trim_ascii_end().escape_ascii()
                 ));
+            }
+        }
+        Ok(())
+    }
+
+    /// The claim of Paper 2 about the module's own result: the counts of the
+    /// process lines add up to those of the last line.
+    fn add_up(&mut self, result: &[u8]) -> Result<(), String> {
+        self.counts.added_up += 1;
+        let (lines, last) = result.split_at(result.len() - LAST_LINE_LENGTH);
+        for (name, place, in_all) in [("data messages", 8, 4), ("commits", 9, 6)] {
+            let counts = lines.chunks(PROCESS_LINE_LENGTH).map(|line| number_at(line, place, 1));
+            let sum: Option<u64> = counts.sum();
+            let in_all = number_at(last, in_all, 2);
+            if sum.is_none() || sum != in_all {
+                return Err(format!("the {name} add up to {sum:?}, in the last line {in_all:?}"));
             }
         }
         Ok(())
@@ -346,6 +376,15 @@ impl<M: Agreement> Comparison<M> {
     }
 }
 
+/// The output lengths at which one may take a result of `n` processes for too
+/// long or not: around its own, 21n + 17; around 17(n + 1), the length before
+/// Paper 2; and around 21(n + 1), which it would be if the last line grew too.
+pub fn rooms_at_limits(n: u8) -> Vec<usize> {
+    let lines = usize::from(n) + 1;
+    let limits = [17 * lines, result_length(n), 21 * lines];
+    limits.into_iter().flat_map(|limit| limit - 1..=limit + 1).collect()
+}
+
 /// The output lengths around the result's of `n` processes, `by` to each side.
 pub fn rooms_around(n: u8, by: usize) -> Vec<usize> {
     let exact = result_length(n);
@@ -355,6 +394,7 @@ pub fn rooms_around(n: u8, by: usize) -> Vec<usize> {
 #[cfg(test)]
 mod tests {
     use super::*;
+    use crate::exhaustive;
     use second::worked;
 
     /// A mistake that the comparison must see.
@@ -368,9 +408,101 @@ mod tests {
         RefusesMixedLetters,
         WritesTheLettersOfTheTicket,
         SettlesLaterForSmallLetters,
+        SwapsTheCounts,
+        CountsAtTheProcessAfter,
+        CountsOfAllInEveryLine,
+        CountsOfAllInTheFirstLine,
+        NoCountsOfACrashedProcess,
+        CutsCountsTo5Bits,
+        CutsCountsAt62,
+        TakesRoomFor17BytesALine,
+        AsksForOneByteMore,
+        WritesALongerLastLine,
+        WritesNoCounts,
         StartsInRound0,
         SpeaksOnRefusal,
         DecidesOnDataAlone,
+    }
+
+    /// The mistakes about the counts in a process's line.
+    const ABOUT_COUNTS: [Mistake; 7] = [
+        Mistake::SwapsTheCounts,
+        Mistake::CountsAtTheProcessAfter,
+        Mistake::CountsOfAllInEveryLine,
+        Mistake::CountsOfAllInTheFirstLine,
+        Mistake::NoCountsOfACrashedProcess,
+        Mistake::CutsCountsTo5Bits,
+        Mistake::CutsCountsAt62,
+    ];
+
+    /// The mistakes about a result's length.
+    const ABOUT_LENGTHS: [Mistake; 4] = [
+        Mistake::TakesRoomFor17BytesALine,
+        Mistake::AsksForOneByteMore,
+        Mistake::WritesALongerLastLine,
+        Mistake::WritesNoCounts,
+    ];
+
+    /// The counts that stand in the line at `place`, from 0 on, by a mistake, if
+    /// those of `lines` are right.
+    fn miscounted(mistake: Mistake, lines: &[[u64; 3]], place: usize) -> [u64; 2] {
+        let [end, data, commits] = lines[place];
+        let in_all = lines.iter().fold([0, 0], |sum, line| [sum[0] + line[1], sum[1] + line[2]]);
+        match mistake {
+            Mistake::SwapsTheCounts => [commits, data],
+            Mistake::CountsAtTheProcessAfter if place == 0 => [0, 0],
+            Mistake::CountsAtTheProcessAfter => [lines[place - 1][1], lines[place - 1][2]],
+            Mistake::CountsOfAllInEveryLine => in_all,
+            Mistake::CountsOfAllInTheFirstLine if place == 0 => in_all,
+            Mistake::CountsOfAllInTheFirstLine => [0, 0],
+            Mistake::NoCountsOfACrashedProcess if end == 2 => [0, 0],
+            Mistake::CutsCountsTo5Bits => [data % 32, commits % 32],
+            Mistake::CutsCountsAt62 => [data.min(62), commits.min(62)],
+            _ => [data, commits],
+        }
+    }
+
+    /// Changes the counts in a right result.
+    fn miscount(mistake: Mistake, result: &mut [u8]) {
+        let lines: Vec<[u64; 3]> = result[..result.len() - LAST_LINE_LENGTH]
+            .chunks(PROCESS_LINE_LENGTH)
+            .map(|line| [2, 8, 9].map(|place| number_at(line, place, 1).expect("digits")))
+            .collect();
+        for (place, line) in result.chunks_exact_mut(PROCESS_LINE_LENGTH).enumerate() {
+            if place < lines.len() {
+                let [data, commits] = miscounted(mistake, &lines, place).map(|count| count as u8);
+                write_line(&[data, commits], &mut line[16..]);
+            }
+        }
+    }
+
+    /// What a module answers that is mistaken about lengths.
+    fn mistake_length(mistake: Mistake, ticket: &[u8], output: &mut [u8]) -> Option<u64> {
+        let n = Ticket::parse(ticket).ok()?.n;
+        let mut whole = vec![0; result_length(n)];
+        Simulator::new().run(ticket, &mut whole).expect("room");
+        let room = output.len();
+        let lines = usize::from(n) + 1;
+        let enough = match mistake {
+            Mistake::TakesRoomFor17BytesALine | Mistake::WritesNoCounts => 17 * lines,
+            Mistake::AsksForOneByteMore => whole.len() + 1,
+            Mistake::WritesALongerLastLine => 21 * lines,
+            _ => return None,
+        };
+        if room < enough {
+            return Some(9 * REFUSED);
+        }
+        if mistake == Mistake::WritesALongerLastLine {
+            whole.splice(whole.len() - 1.., *b"0000\n");
+        }
+        if mistake == Mistake::WritesNoCounts {
+            let counts =
+                |place: usize| place < 21 * usize::from(n) && (16..20).contains(&(place % 21));
+            whole = (0..whole.len()).filter(|&place| !counts(place)).map(|at| whole[at]).collect();
+        }
+        let fits = whole.len().min(room);
+        output[..fits].copy_from_slice(&whole[..fits]);
+        Some(whole.len() as u64)
     }
 
     fn has_small_letters(text: &[u8]) -> bool {
@@ -389,6 +521,11 @@ mod tests {
             if self.1 == Mistake::RefusesMixedLetters && has_mixed_letters(ticket) {
                 return 2 * REFUSED + 1;
             }
+            if ABOUT_LENGTHS.contains(&self.1) {
+                if let Some(answer) = mistake_length(self.1, ticket, output) {
+                    return answer;
+                }
+            }
             let answer = Agreement::run(&mut self.0, ticket, output);
             let length = answer as usize;
             match self.1 {
@@ -399,6 +536,9 @@ mod tests {
                     if answer < REFUSED && has_small_letters(ticket) =>
                 {
                     output[..length].make_ascii_lowercase()
+                }
+                mistake if answer < REFUSED && ABOUT_COUNTS.contains(&mistake) => {
+                    miscount(mistake, &mut output[..length])
                 }
                 _ => {}
             }
@@ -443,6 +583,7 @@ mod tests {
     fn compared(mistake: Mistake) -> Result<(), Difference> {
         let mut comparison = Comparison::new(Mistaken(Simulator::new(), mistake));
         comparison.ticket(&worked::case(1).text(), &rooms_around(4, 2))?;
+        exhaustive::counts_of(&mut comparison, 64)?;
         for number in 1..=worked::CASES {
             comparison.in_other_letters(&worked::case(number).text(), result_length(10))?;
         }
@@ -454,7 +595,7 @@ mod tests {
     #[test]
     fn each_mistake_is_seen() {
         assert_eq!(compared(Mistake::None), Ok(()));
-        for mistake in [
+        let others = [
             Mistake::CountsOneCommitMore,
             Mistake::WritesBehindTheResult,
             Mistake::WritesOnRefusal,
@@ -465,8 +606,55 @@ mod tests {
             Mistake::StartsInRound0,
             Mistake::SpeaksOnRefusal,
             Mistake::DecidesOnDataAlone,
-        ] {
+        ];
+        for mistake in others.into_iter().chain(ABOUT_COUNTS).chain(ABOUT_LENGTHS) {
             assert!(compared(mistake).is_err(), "{mistake:?}");
+        }
+    }
+
+    /// What is said of a module's result by the sums alone and by separate parts
+    /// alone.
+    fn seen_by_itself(mistake: Mistake, ticket: &Ticket) -> [bool; 2] {
+        let mut comparison = Comparison::new(Mistaken(Simulator::new(), mistake));
+        let room = result_length(ticket.n);
+        let (_, output) = run_into(&mut comparison.module, &ticket.text(), room, 0);
+        let result = &output[..room];
+        [comparison.add_up(result), comparison.separate_run(ticket, result)]
+            .map(|seen| seen.is_err())
+    }
+
+    #[test]
+    fn mistakes_about_counts_are_seen_without_the_second_implementations_result() {
+        let proposals = (1..=64).collect();
+        let largest = Ticket { n: 64, t: 63, proposals, failures: Vec::new() };
+        for ticket in [worked::case(1), largest.clone()] {
+            assert_eq!(seen_by_itself(Mistake::None, &ticket), [false, false]);
+        }
+        for mistake in ABOUT_COUNTS {
+            let ticket = match mistake {
+                Mistake::CutsCountsTo5Bits | Mistake::CutsCountsAt62 => largest.clone(),
+                _ => worked::case(1),
+            };
+            // The last process sends to none, so the sums stay if counts move on by one line.
+            let sums_stay = [Mistake::CountsAtTheProcessAfter, Mistake::CountsOfAllInTheFirstLine];
+            let expected = [!sums_stay.contains(&mistake), true];
+            assert_eq!(seen_by_itself(mistake, &ticket), expected, "{mistake:?}");
+        }
+    }
+
+    #[test]
+    fn mistakes_about_lengths_are_seen_at_the_limits() {
+        for n in [1, 2, 4, 64] {
+            let proposals = (1..=u32::from(n)).collect();
+            let text = Ticket { n, t: 0, proposals, failures: Vec::new() }.text();
+            let compared = |mistake| {
+                let mut comparison = Comparison::new(Mistaken(Simulator::new(), mistake));
+                rooms_at_limits(n).into_iter().try_for_each(|room| comparison.run(&text, room))
+            };
+            assert_eq!(compared(Mistake::None), Ok(()));
+            for mistake in ABOUT_LENGTHS {
+                assert!(compared(mistake).is_err(), "{n} {mistake:?}");
+            }
         }
     }
 }

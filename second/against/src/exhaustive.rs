@@ -1,15 +1,15 @@
-//! Everything small, every byte at every place of a ticket, and every call of
-//! start, speak and close near a valid one.
+//! Everything small, every byte at every place of a ticket, every count of a
+//! process, and every call of start, speak and close near a valid one.
 
 use second::interface::Agreement;
 use second::local::{SPEECH_LENGTH, STATE_LENGTH};
 use second::patterns::failure_patterns;
 use second::report::result_length;
-use second::ticket::MOST_PROCESSES;
+use second::ticket::{processes_above, MOST_PROCESSES};
 use second::worked;
-use second::Ticket;
+use second::{Failure, Ticket};
 
-use crate::comparison::{rooms_around, Comparison, Difference};
+use crate::comparison::{rooms_around, rooms_at_limits, Comparison, Difference};
 
 /// Every t and every accepted failure pattern of n ≤ 4 processes, each with
 /// every proposal from two values and with all proposals different, and each in
@@ -53,6 +53,33 @@ pub fn rooms<M: Agreement>(comparison: &mut Comparison<M>) -> Result<(), Differe
         comparison.in_other_letters(&ticket.text(), longest)?;
     }
     Ok(())
+}
+
+/// For each n, every count that a process can have in its line, with output
+/// buffers of the lengths that may be taken for the result's.
+pub fn counts<M: Agreement>(comparison: &mut Comparison<M>) -> Result<(), Difference> {
+    (1..=MOST_PROCESSES).try_for_each(|n| counts_of(comparison, n))
+}
+
+/// Every count of data and of commits of every one of `n` processes: up to the
+/// last they crash, each while it sends data or commits, after so many of them
+/// or all. A process that has one of the commits decides, so those below send
+/// on. Then none sends anything; and then the first alone, to all.
+pub fn counts_of<M: Agreement>(comparison: &mut Comparison<M>, n: u8) -> Result<(), Difference> {
+    let rooms = rooms_at_limits(n);
+    let mut compare = |how: &dyn Fn(u8) -> Failure, crashing: u8| {
+        let proposals = (1..=u32::from(n)).map(|process| process * 0x0101_0101).collect();
+        let failures = (1..=crashing).map(how).collect();
+        comparison.ticket(&Ticket { n, t: n - 1, proposals, failures }.text(), &rooms)
+    };
+    for count in 0..n {
+        let some = |process: u8| count.min(n - process);
+        let reached = |process: u8| processes_above(process, process + some(process));
+        compare(&|process| Failure::sending_data(process, reached(process)), n - 1)?;
+        compare(&|process| Failure::sending_commits(process, some(process)), n - 1)?;
+    }
+    compare(&|process| Failure::before_sending(process, process), n - 1)?;
+    compare(&|process| Failure::before_sending(process, process), 0)
 }
 
 /// Each of the 256 bytes at every place of a ticket, and each two of them as the

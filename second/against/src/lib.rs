@@ -2,7 +2,8 @@
 //!
 //! - [`proved`]: the library's five functions.
 //! - [`comparison`]: one call or one ticket, given to both.
-//! - [`exhaustive`]: every small ticket, and every call near a valid one.
+//! - [`exhaustive`]: every small ticket, every count of a process, and every call
+//!   near a valid one.
 //! - [`random`]: tickets and calls by chance.
 //! - [`shrink`]: the smallest ticket that shows a difference.
 

@@ -3,11 +3,11 @@
 use second::generate;
 use second::interface::Agreement;
 use second::local::STATE_LENGTH;
-use second::report::result_length;
+use second::report::{result_length, LONGEST_RESULT};
 use second::rng::Rng;
 use second::ticket::MOST_PROCESSES;
 
-use crate::comparison::{Comparison, Difference};
+use crate::comparison::{rooms_at_limits, Comparison, Difference};
 
 /// A ticket of up to 64 processes, damaged every other time, in any letters and
 /// in others; and with it some calls of start, speak and close.
@@ -22,8 +22,12 @@ pub fn ticket_and_calls<M: Agreement>(
         generate::written(rng, &ticket)
     };
     let exact = result_length(ticket.n);
-    let around = exact - 20 + rng.below(41);
-    let any = rng.below(2 * result_length(MOST_PROCESSES));
+    let around = if rng.one_in(4) {
+        rng.pick(&rooms_at_limits(ticket.n))
+    } else {
+        exact - 20 + rng.below(41)
+    };
+    let any = rng.below(2 * LONGEST_RESULT);
     comparison.ticket(&text, &[exact, around, any])?;
     comparison.in_other_letters(&text, rng.pick(&[exact, around]))?;
     calls(comparison, rng)

@@ -12,7 +12,7 @@ use std::path::PathBuf;
 use std::process::ExitCode;
 use std::{env, fs, io};
 
-use second::corpus::{corpus, Entry};
+use second::corpus::{corpus, Entry, STORED};
 use second::Simulator;
 
 struct Options {
@@ -22,7 +22,7 @@ struct Options {
 }
 
 fn options() -> Option<Options> {
-    let mut options = Options { seed: 1, count: 600, folder: PathBuf::from(".") };
+    let mut options = Options { seed: 1, count: STORED, folder: PathBuf::from(".") };
     let mut arguments = env::args().skip(1);
     while let Some(name) = arguments.next() {
         let value = arguments.next()?;

@@ -2,9 +2,9 @@
 
 use std::fmt;
 
-use super::model::{Counts, Run, State};
+use super::model::{Counts, Run, Sent, State};
 use super::rules::{right, Rules};
-use crate::process::Status;
+use crate::process::{Process, Status};
 use crate::simulation::{Simulation, Totals};
 use crate::ticket::{Failure, Ticket};
 use crate::worked;
@@ -42,10 +42,18 @@ pub enum Claim {
     /// The messages counted of a round are as many as the processes that they
     /// reach.
     CountsReached,
+    /// The counts in a process's line are those of its own round if it began
+    /// that up and undecided, and else 0.
+    CountsOwnRound,
+    /// The counts over all processes add up to the run's.
+    CountsAddUp,
+    /// A process sends no more data messages than there are processes above it,
+    /// and no more commits.
+    CountsThoseAbove,
     /// The run has a last round, and that round qualifies for settling.
     LastRoundSettles,
     /// Without the failure lines that are idle the states after every round,
-    /// the counts and f are the same.
+    /// the counts, those of each process too, and f are the same.
     IdleLinesChangeNothing,
     /// Case 7 without the failure lines that are idle is case 1, and so is case
     /// 1.
@@ -57,7 +65,7 @@ pub enum Claim {
 }
 
 /// All claims but those of the worked runs.
-pub const CLAIMS: [Claim; 17] = [
+pub const CLAIMS: [Claim; 20] = [
     Claim::Agreement,
     Claim::Validity,
     Claim::Termination,
@@ -71,6 +79,9 @@ pub const CLAIMS: [Claim; 17] = [
     Claim::CountsRounds,
     Claim::CountsSpeakers,
     Claim::CountsReached,
+    Claim::CountsOwnRound,
+    Claim::CountsAddUp,
+    Claim::CountsThoseAbove,
     Claim::LastRoundSettles,
     Claim::IdleLinesChangeNothing,
     Claim::IdleLinesTakenOut,
@@ -93,6 +104,9 @@ impl fmt::Display for Claim {
             Claim::CountsRounds => write!(f, "rounds end when none is undecided"),
             Claim::CountsSpeakers => write!(f, "speakers begin their rounds undecided"),
             Claim::CountsReached => write!(f, "messages counted are those that reach a process"),
+            Claim::CountsOwnRound => write!(f, "counts by process are those of its own round"),
+            Claim::CountsAddUp => write!(f, "counts by process add up"),
+            Claim::CountsThoseAbove => write!(f, "counts by process are at most those above it"),
             Claim::LastRoundSettles => write!(f, "the last round settles"),
             Claim::IdleLinesChangeNothing => write!(f, "idle lines change nothing"),
             Claim::IdleLinesTakenOut => write!(f, "case 7 without its idle line is case 1"),
@@ -153,10 +167,25 @@ impl Claim {
             Claim::CountsReached => {
                 (1..=run.n).all(|round| run.messages(round, rules) == run.reached(round, rules))
             }
+            Claim::CountsOwnRound => (1..).zip(&run.sent).all(|(process, &sent)| {
+                let sends = process <= run.last_round()
+                    && is_up_after((rules.sends_after)(process), process, run);
+                sent == if sends { run.messages(process, rules) } else { (0, 0) }
+            }),
+            Claim::CountsAddUp => {
+                let summed = run.sent.iter().skip(usize::from(rules.summed_from) - 1);
+                let sum = summed.fold((0, 0), |sum, sent| (sum.0 + sent.0, sum.1 + sent.1));
+                sum == (run.counts.data, run.counts.commits)
+            }
+            Claim::CountsThoseAbove => (1..).zip(&run.sent).all(|(process, &(data, commits))| {
+                let most = (rules.most_sent)(run.n, process);
+                data <= most && commits <= most
+            }),
             Claim::LastRoundSettles => run.settling_rounds(rules).contains(&run.counts.rounds),
             Claim::IdleLinesChangeNothing => {
                 let other = Run::new(&without_idle(ticket, run, rules), rules);
-                (&other.history, other.counts, other.f) == (&run.history, run.counts, run.f)
+                (&other.history, other.counts, &other.sent, other.f)
+                    == (&run.history, run.counts, &run.sent, run.f)
             }
             Claim::NoLater
             | Claim::IdleLinesTakenOut
@@ -174,6 +203,12 @@ pub fn decides_by(latest: u8, run: &Run, rules: &Rules) -> bool {
 /// The states as each round began, from round 1 on.
 fn rounds(run: &Run) -> impl Iterator<Item = &[State]> {
     run.history[..run.history.len() - 1].iter().map(Vec::as_slice)
+}
+
+/// Whether a process is up and undecided when so many rounds are over.
+fn is_up_after(rounds: u8, process: u8, run: &Run) -> bool {
+    let states = run.history.get(usize::from(rounds));
+    states.is_some_and(|states| right::is_undecided(states[usize::from(process) - 1]))
 }
 
 /// The failure line and the end of each process.
@@ -238,6 +273,8 @@ pub struct Answer {
     pub f: u8,
     /// What is counted.
     pub counts: Counts,
+    /// The counts in the line of each process.
+    pub sent: Vec<Sent>,
     /// The last round in which one may decide, and the most messages.
     pub limits: (u8, u64),
     /// The rounds that qualify for settling.
@@ -251,6 +288,7 @@ pub fn answer(ticket: &Ticket, rules: &Rules) -> Answer {
         ends: run.ends().to_vec(),
         f: run.f,
         counts: run.counts,
+        sent: run.sent.clone(),
         limits: ((rules.latest)(run.f), (rules.most_messages)(&run)),
         settling_rounds: run.settling_rounds(rules),
     }
@@ -265,10 +303,12 @@ pub fn answer_of_simulation(ticket: &Ticket) -> Answer {
         Status::Decided(round) => State::Decided(round, process.estimate()),
         Status::Crashed(round) => State::Crashed(round),
     });
+    let sent = simulation.processes().iter().map(Process::sent);
+    let sent = sent.map(|sent| (sent.data.into(), sent.commits.into())).collect();
     let counts =
         Counts { rounds, speakers: speakers.into(), data: data.into(), commits: commits.into() };
     let settling_rounds = Simulator::new().settling_rounds(&ticket.text());
     let settling_rounds = settling_rounds.expect("an accepted ticket");
     let limits = (crashes + 1, right::bound_by_speakers(ticket.n, counts.speakers));
-    Answer { ends: ends.collect(), f: crashes, counts, limits, settling_rounds }
+    Answer { ends: ends.collect(), f: crashes, counts, sent, limits, settling_rounds }
 }

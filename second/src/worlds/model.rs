@@ -87,6 +87,37 @@ pub struct Counts {
     pub commits: u64,
 }
 
+/// Data messages and commits.
+pub type Sent = (u64, u64);
+
+/// What the counts in a process's result line are taken from.
+#[derive(Clone, Copy, Debug)]
+pub struct Line<'a> {
+    /// The process.
+    pub process: u8,
+    /// How it ends.
+    pub end: State,
+    /// The messages counted of each process, from process 1 on.
+    pub sent: &'a [Sent],
+    /// The messages of all.
+    pub in_all: Sent,
+    /// The last round that is run.
+    pub last_round: u8,
+}
+
+impl Line<'_> {
+    /// The messages counted of a process; none of one that is not there.
+    pub fn sent_by(&self, process: u8) -> Sent {
+        let place = usize::from(process).checked_sub(1);
+        place.and_then(|place| self.sent.get(place)).copied().unwrap_or_default()
+    }
+
+    /// Those counted of the process itself.
+    pub fn own(&self) -> Sent {
+        self.sent_by(self.process)
+    }
+}
+
 /// A whole run.
 #[derive(Clone, Debug)]
 pub struct Run {
@@ -98,6 +129,8 @@ pub struct Run {
     pub history: Vec<Vec<State>>,
     /// The counts.
     pub counts: Counts,
+    /// The counts in the line of each process, from process 1 on.
+    pub sent: Vec<Sent>,
     /// f: the failure lines that count as a crash.
     pub f: u8,
 }
@@ -114,7 +147,7 @@ impl Run {
             let states = run.states_after((rules.round_run)(round), run.ends(), rules);
             run.history.push(states);
         }
-        run.counts = run.counts(rules);
+        (run.counts, run.sent) = run.counts(rules);
         run.f = run.lines_that_count(run.ends(), rules);
         run
     }
@@ -125,12 +158,18 @@ impl Run {
         for failure in &ticket.failures {
             faults[usize::from(failure.process) - 1] = Some(*failure);
         }
-        Run { n: ticket.n, faults, history: vec![states], counts: Counts::default(), f: 0 }
+        let counts = Counts::default();
+        Run { n: ticket.n, faults, history: vec![states], counts, sent: Vec::new(), f: 0 }
     }
 
     /// The last state of each process.
     pub fn ends(&self) -> &[State] {
         self.history.last().expect("the states before round 1 at least")
+    }
+
+    /// The last round that was run.
+    pub fn last_round(&self) -> u8 {
+        self.history.len() as u8 - 1
     }
 
     /// How many failure lines count as a crash, if the processes end so.
@@ -177,10 +216,12 @@ impl Run {
         (1..).zip(states).filter(crashed).fold(0, |set, (process, _)| set | 1 << (process - 1))
     }
 
-    /// What `rules` count of this run's rounds.
-    pub fn counts(&self, rules: &Rules) -> Counts {
+    /// What `rules` count of this run's rounds, and the counts that stand in the
+    /// line of each process.
+    fn counts(&self, rules: &Rules) -> (Counts, Vec<Sent>) {
         let mut counts = Counts::default();
-        let last = self.history.len() as u8 - 1;
+        let mut sent = vec![(0, 0); usize::from(self.n)];
+        let last = self.last_round();
         for (round, states) in (1..=last).map(rules.round_run).zip(&self.history) {
             let goes_on = states.iter().any(|&state| (rules.is_undecided)(state));
             let coordinator = (rules.coordinator)(round, self.n);
@@ -193,14 +234,21 @@ impl Run {
                 counts.speakers += 1;
                 counts.data += data;
                 counts.commits += commits;
+                let by = &mut sent[usize::from(round) - 1];
+                *by = (by.0 + data, by.1 + commits);
             }
         }
-        counts
+        let (in_all, last_round) = ((counts.data, counts.commits), self.last_round());
+        let shown = |(process, &end): (u8, &State)| {
+            (rules.shown)(&Line { process, end, sent: &sent, in_all, last_round })
+        };
+        let shown = (1..).zip(self.ends()).map(shown).collect();
+        (counts, shown)
     }
 
     /// The data messages and the commits that `rules` count of `round`, if its
     /// coordinator speaks.
-    pub fn messages(&self, round: u8, rules: &Rules) -> (u64, u64) {
+    pub fn messages(&self, round: u8, rules: &Rules) -> Sent {
         let line = self.fault((rules.coordinator)(round, self.n));
         let crash = line.filter(|failure| failure.round == round).map(|failure| failure.crash);
         ((rules.data_sent)(self.n, round, crash), (rules.commits_sent)(self.n, round, crash))
@@ -208,7 +256,7 @@ impl Run {
 
     /// How many processes the data messages of `round` reach, and how many its
     /// commits, if its coordinator speaks. Who has crashed is not looked at.
-    pub fn reached(&self, round: u8, rules: &Rules) -> (u64, u64) {
+    pub fn reached(&self, round: u8, rules: &Rules) -> Sent {
         let fault = self.fault((rules.coordinator)(round, self.n));
         let sending = Sending { n: self.n, round, crashed: 0 };
         let reach = |to| reach(&sending, fault, to, rules);
@@ -220,7 +268,7 @@ impl Run {
     /// The rounds that qualify for settling, in order. Round 0, and rounds after
     /// the run's, are looked at too.
     pub fn settling_rounds(&self, rules: &Rules) -> Vec<u8> {
-        let last = self.history.len() as u8 - 1;
+        let last = self.last_round();
         let one_value = |&round: &u8| {
             let states = &self.history[usize::from((rules.settled_at_end_of)(round))];
             let processes = states.iter().zip(self.faults.iter().zip(self.ends()));

@@ -1,6 +1,6 @@
 //! The rules that a world is made of, and the right ones.
 
-use super::model::{Heard, Reach, Run, Sending, State, Step};
+use super::model::{Heard, Line, Reach, Run, Sending, Sent, State, Step};
 use crate::ticket::Crash;
 
 /// The rules of a world: which failure patterns there are, what happens in a
@@ -46,6 +46,8 @@ pub struct Rules {
     pub data_sent: fn(n: u8, round: u8, Option<Crash>) -> u64,
     /// Its commits.
     pub commits_sent: fn(n: u8, round: u8, Option<Crash>) -> u64,
+    /// The counts that stand in a process's line.
+    pub shown: fn(&Line) -> Sent,
     /// Whether a failure line of a round is idle, from its process's end.
     pub is_idle: fn(round: u8, State) -> bool,
     /// Whether a failure line counts in f, from whether it is idle.
@@ -79,6 +81,12 @@ pub struct Rules {
     pub most_speakers: fn(u8) -> u64,
     /// Claim: the most messages of a run.
     pub most_messages: fn(&Run) -> u64,
+    /// Claim: how many rounds are over in the states by which a process sends.
+    pub sends_after: fn(process: u8) -> u8,
+    /// Claim: the most data messages of a process, and the most commits.
+    pub most_sent: fn(n: u8, process: u8) -> u64,
+    /// Claim: the process whose counts are the first of the sums.
+    pub summed_from: u8,
     /// Claim: whether a failure line is left in the ticket without idle lines,
     /// from whether it is idle.
     pub line_left: fn(idle: bool) -> bool,
@@ -96,7 +104,7 @@ pub struct Rules {
     pub alike: fn(first: u32, second: u32) -> bool,
 }
 
-/// The right rules (01, "The ticket" and "A round"; demand 3).
+/// The right rules (01, "The ticket" and "A round"; demand 3; 02, Paper 2).
 pub const RIGHT: Rules = Rules {
     most_failures: |t| t,
     commit_step_in: |process, round| process == round,
@@ -116,6 +124,7 @@ pub const RIGHT: Rules = Rules {
     speaks: right::is_undecided,
     data_sent: right::data_sent,
     commits_sent: right::commits_sent,
+    shown: |line| line.own(),
     is_idle: right::is_idle,
     counts_as_crash: |idle| !idle,
     may_settle: |round, rounds, _| 1 <= round && round <= rounds,
@@ -130,6 +139,9 @@ pub const RIGHT: Rules = Rules {
     ends_from: 1,
     most_speakers: |f| u64::from(f) + 1,
     most_messages: |run| right::bound_by_speakers(run.n, run.counts.speakers),
+    sends_after: |process| process - 1,
+    most_sent: |n, process| u64::from(n - process),
+    summed_from: 1,
     line_left: |idle| !idle,
     counts_paired: |first, second| first <= second,
     line_in_one: |first, second| right::is_commit_line(first) && second.is_none(),

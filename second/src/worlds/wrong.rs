@@ -8,7 +8,9 @@ use crate::ticket::Crash;
 
 /// Every wrong world.
 pub fn worlds() -> impl Iterator<Item = &'static World> {
-    [PATTERNS, ROUNDS, MISTAKES, IMPOSTORS, COUNTS, SETTLING, CLAIMED, PAIRED].into_iter().flatten()
+    [PATTERNS, ROUNDS, MISTAKES, IMPOSTORS, COUNTS, SENT, SETTLING, CLAIMED, PAIRED]
+        .into_iter()
+        .flatten()
 }
 
 const fn world(name: &'static str, breaks: &'static [Claim], rules: Rules) -> World {
@@ -248,7 +250,7 @@ const IMPOSTORS: &[World] = &[
     ),
     world(
         "process n is taken for the coordinator",
-        &[Agreement, Termination, EarlyDecision, CountsSpeakers, LastRoundSettles],
+        &[Agreement, Termination, EarlyDecision, CountsSpeakers, CountsOwnRound, LastRoundSettles],
         Rules { coordinator: |_, n| n, ..RIGHT },
     ),
     world(
@@ -259,6 +261,7 @@ const IMPOSTORS: &[World] = &[
             CountsCrashed,
             CountsRounds,
             CountsSpeakers,
+            CountsOwnRound,
             LastRoundSettles,
         ],
         Rules { round_run: |_| 1, ..RIGHT },
@@ -288,13 +291,17 @@ const COUNTS: &[World] = &[
     world(
         "consensus/decided-in-the-round-of-its-line-is-idle",
         &[RefusesImpostors],
-        Rules { is_idle: |round, end| matches!(end, State::Decided(decided, _) if decided <= round), ..RIGHT },
+        Rules {
+            is_idle: |round, end| matches!(end, State::Decided(decided, _) if decided <= round),
+            ..RIGHT
+        },
     ),
     world(
         "coordinator/decided-processes-keep-the-run-going",
         &[
             CountsRounds,
             CountsSpeakers,
+            CountsOwnRound,
             SpeakersWithinBound,
             MessagesWithinBound,
             IdleLinesChangeNothing,
@@ -307,7 +314,13 @@ const COUNTS: &[World] = &[
     ),
     world(
         "coordinator/silent-coordinators-count-as-speakers",
-        &[SpeakersWithinBound, MessagesWithinBound, CountsSpeakers, IdleLinesChangeNothing],
+        &[
+            SpeakersWithinBound,
+            MessagesWithinBound,
+            CountsSpeakers,
+            CountsOwnRound,
+            IdleLinesChangeNothing,
+        ],
         Rules { speaks: |_| true, ..RIGHT },
     ),
     world(
@@ -322,7 +335,7 @@ const COUNTS: &[World] = &[
     ),
     world(
         "coordinator/data-counted-as-the-set-itself",
-        &[MessagesWithinBound, CountsReached],
+        &[MessagesWithinBound, CountsReached, CountsThoseAbove],
         Rules {
             data_sent: |n, round, crash| match crash {
                 Some(Crash::SendingData { reached }) => reached,
@@ -366,7 +379,7 @@ const COUNTS: &[World] = &[
     ),
     world(
         "n - 1 data messages are counted for n - r",
-        &[MessagesWithinBound, CountsReached],
+        &[MessagesWithinBound, CountsReached, CountsThoseAbove],
         Rules {
             data_sent: |n, round, crash| match crash {
                 None | Some(Crash::SendingCommits { .. }) => u64::from(n - 1),
@@ -377,7 +390,7 @@ const COUNTS: &[World] = &[
     ),
     world(
         "n - 1 commits are counted for n - r",
-        &[MessagesWithinBound, CountsReached],
+        &[MessagesWithinBound, CountsReached, CountsThoseAbove],
         Rules {
             commits_sent: |n, round, crash| match crash {
                 None => u64::from(n - 1),
@@ -388,7 +401,7 @@ const COUNTS: &[World] = &[
     ),
     world(
         "64 data messages are counted of any set",
-        &[MessagesWithinBound, CountsReached],
+        &[MessagesWithinBound, CountsReached, CountsThoseAbove],
         Rules {
             data_sent: |n, round, crash| match crash {
                 Some(Crash::SendingData { .. }) => 64,
@@ -401,6 +414,75 @@ const COUNTS: &[World] = &[
         "rounds are not counted",
         &[CountsRounds, LastRoundSettles],
         Rules { round_counts: |_, _| false, ..RIGHT },
+    ),
+];
+
+/// Other counts by process (02, Paper 2).
+const SENT: &[World] = &[
+    world(
+        "coordinator/commits-kept-as-data-of-their-sender",
+        &[CountsOwnRound, CountsAddUp],
+        Rules { shown: |line| (line.own().1, line.own().1), ..RIGHT },
+    ),
+    // The last process sends to none, so the sums stay.
+    world(
+        "coordinator/messages-kept-for-the-next-process",
+        &[CountsOwnRound, CountsThoseAbove],
+        Rules { shown: |line| line.sent_by(line.process - 1), ..RIGHT },
+    ),
+    world(
+        "coordinator/every-process-has-the-total",
+        &[CountsOwnRound, CountsAddUp, CountsThoseAbove],
+        Rules { shown: |line| line.in_all, ..RIGHT },
+    ),
+    world(
+        "coordinator/messages-of-the-last-round-left-out",
+        &[CountsOwnRound, CountsAddUp],
+        Rules {
+            shown: |line| {
+                let (data, commits) = line.own();
+                (data, if line.process == line.last_round { 0 } else { commits })
+            },
+            ..RIGHT
+        },
+    ),
+    world(
+        "formats/commits-of-a-process-before-its-data",
+        &[CountsOwnRound, CountsAddUp],
+        Rules { shown: |line| (line.own().1, line.own().0), ..RIGHT },
+    ),
+    world(
+        "formats/counts-of-the-next-process",
+        &[CountsOwnRound, CountsAddUp],
+        Rules { shown: |line| line.sent_by(line.process + 1), ..RIGHT },
+    ),
+    world(
+        "formats/total-in-every-line",
+        &[CountsOwnRound, CountsAddUp, CountsThoseAbove],
+        Rules { shown: |line| (line.in_all.0, line.own().1), ..RIGHT },
+    ),
+    world(
+        "the counts of all stand in the first line",
+        &[CountsOwnRound, CountsThoseAbove],
+        Rules { shown: |line| if line.process == 1 { line.in_all } else { (0, 0) }, ..RIGHT },
+    ),
+    world(
+        "a crashed process has no counts",
+        &[CountsOwnRound, CountsAddUp],
+        Rules { shown: |line| if has_crashed(line.end) { (0, 0) } else { line.own() }, ..RIGHT },
+    ),
+    world(
+        "a crashed process has no data",
+        &[CountsOwnRound, CountsAddUp],
+        Rules {
+            shown: |line| if has_crashed(line.end) { (0, line.own().1) } else { line.own() },
+            ..RIGHT
+        },
+    ),
+    world(
+        "counts are cut to one bit",
+        &[CountsOwnRound, CountsAddUp],
+        Rules { shown: |line| (line.own().0 % 2, line.own().1 % 2), ..RIGHT },
     ),
 ];
 
@@ -514,6 +596,17 @@ const CLAIMED: &[World] = &[
         "coordinator/bound-too-high",
         &[WorkedRun("case 1")],
         Rules { most_messages: |run| (RIGHT.most_messages)(run) + 1, ..RIGHT },
+    ),
+    world(
+        "coordinator/counted-as-the-round-ends",
+        &[CountsOwnRound],
+        Rules { sends_after: |process| process, ..RIGHT },
+    ),
+    world("coordinator/sum-without-process-1", &[CountsAddUp], Rules { summed_from: 2, ..RIGHT }),
+    world(
+        "coordinator/one-message-fewer-than-processes-above",
+        &[CountsThoseAbove],
+        Rules { most_sent: |n, process| u64::from(n - process).saturating_sub(1), ..RIGHT },
     ),
     world(
         "coordinator/every-line-taken-out",

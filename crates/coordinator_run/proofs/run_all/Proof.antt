@@ -6,13 +6,13 @@ use Rattle.coordinator_run.proofs.run_all.Statement.{statement}
 use Rattle.coordinator_run.proofs.run_all.Tie as tie
 
 add-run-to : tie.Need-add-run-to
-add-run-to c = omega (arith, limits _ (c .pre))
+add-run-to c = omega (arith, limits _ (c .pre .0))
 
 run-to-requires : tie.Need-run-to-requires
-run-to-requires c κs = (c .pre, omega arith)
+run-to-requires c κs = let start = c .before .before in (start .pre .0, omega arith, start .pre .1)
 
 returns : tie.Need-returns
-returns c = (to-the-last _ _ (c .run-to .ensures .0), c .run-to .ensures .1)
+returns c = to-the-last _ _ _ _ (c .run-to .ensures)
 
 pub run-all-spec : {M : Type 1} → statement M
 run-all-spec = tie.close (tie.spec add-run-to run-to-requires returns)

@@ -54,7 +54,7 @@ returns c =
     let args = start .args in
     result-written (runOver (args .n) (args .ends .now) (args .end-rounds .now) (args .values .now) (args .rounds) (args .speakers) (args .data-sent)
     (args .commits-sent))
-    (args .f) (args .n) (length-states-over (args .n) (args .ends .now) (args .end-rounds .now) (args .values .now) (start .pre .1))
+    _ _ (args .f) (args .n) (length-states-over (args .n) (args .ends .now) (args .end-rounds .now) (args .values .now) (start .pre .1))
     (args .out .now) _ _ _
     (start .pre .2)
     (lines .put-process-lines .ensures)

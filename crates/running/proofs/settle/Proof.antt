@@ -1,5 +1,5 @@
 -- `running::settle` meets its contract: each answer is a law of Answers, at what reading the ticket ensures. Assumes nothing.
-use mathlib.Core.Path.{_≡_}
+use mathlib.Core.Path.{_≡_, refl}
 use borrow.Author.Needs.{needs}
 use Rattle.tables.specs.InstanceOfTable.{instanceOf}
 use Rattle.formats.specs.Reading.{accepted}
@@ -36,10 +36,10 @@ before-lending c =
     lent .before .before .before
 
 run-all-requires : tie.Need-run-all-requires
-run-all-requires c κs = accepted-well-formed _ _ (ticket-read (before-lending c))
+run-all-requires c κs = (accepted-well-formed _ _ (ticket-read (before-lending (c .before .before))), (refl, refl))
 
 returns-2 : tie.Need-returns-2
-returns-2 c = settles-last _ _ (c .run-all .result) (ticket-read (before-lending (c .before))) (c .run-all .ensures .0)
+returns-2 c = settles-last _ _ (c .run-all .result) (ticket-read (before-lending (c .before .before .before))) (c .run-all .ensures .run)
 
 pub settle-spec : {M : Type 1} → statement M
 settle-spec =

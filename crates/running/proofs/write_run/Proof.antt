@@ -1,5 +1,5 @@
 -- `running::write_run` meets its contract: the run that is made, and f of it, give the instance's result. Assumes nothing.
-use mathlib.Core.Path.{_≡_}
+use mathlib.Core.Path.{_≡_, refl}
 use native.Mathlib.Omega.{arith}
 use borrow.Author.Needs.{needs}
 use lib.ListN.{length}
@@ -17,21 +17,21 @@ ran c =
     counted .before .before .before .before
 
 run-all-requires : tie.Need-run-all-requires
-run-all-requires c κs = search needs
+run-all-requires c κs = (c .before .before .before .pre .0, (refl, refl))
 
 crash-count-requires : tie.Need-crash-count-requires
 unfolding instanceOf
 crash-count-requires c κs =
     let run = c .before .before .before in
-    let formed = run .before .before .pre .0 in
+    let formed = run .before .before .before .before .pre .0 in
     let places : length (run .run-all .result .ends) ≡ 64 = search needs in
     (formed .at-most-64, rounds-fit _ formed, omega (arith, formed .at-most-64))
 
 write-result-requires : tie.Need-write-result-requires
 unfolding instanceOf resultSize
 write-result-requires c κs =
-    let run = ran (c .before .before .before) in
-    let start = run .before .before in
+    let run = ran (c .before .before .before .before .before) in
+    let start = run .before .before .before .before in
     let places : length (run .run-all .result .ends) ≡ 64 = search needs in
     let few = start .pre .0 .at-most-64 in
     (omega (arith, few), omega (arith, few), omega (arith, start .pre .1))
@@ -42,10 +42,10 @@ same-length c = search needs
 returns : tie.Need-returns
 returns c =
     let wrote = c .before .before in
-    let lent = wrote .before .before .before .before in
+    let lent = wrote .before .before .before .before .before .before in
     let counted = lent .before .before in
     let run = ran lent .run-all in
-    run-written _ _ _ (run .result) _ (run .ensures .0) (counted .crash-count .ensures) (wrote .write-result .ensures)
+    run-written _ _ _ (run .result) _ _ _ (run .ensures) (counted .crash-count .ensures) (wrote .write-result .ensures)
 
 pub write-run-spec : {M : Type 1} → statement M
 write-run-spec =

@@ -9,6 +9,7 @@ use std::time::{Duration, Instant};
 
 use against::proved::Proved;
 use second::interface::Agreement;
+use second::report::LONGEST_RESULT;
 use second::worked;
 use second::{Failure, Simulator, Ticket};
 
@@ -78,7 +79,7 @@ fn tickets() -> Vec<(&'static str, Vec<u8>)> {
 fn time_tickets(time: Duration) {
     println!("{:<32}{:>14}{:>14}{:>8}", "tickets per second", "proved", "second", "ratio");
     for (name, text) in tickets() {
-        let mut output = [0; 1105];
+        let mut output = [0; LONGEST_RESULT];
         let [proved, second] = rates(time, |module| {
             black_box(module.run(black_box(&text), black_box(&mut output)));
         });
@@ -143,7 +144,9 @@ fn main() -> ExitCode {
     println!();
     println!("The best of {TURNS} turns that both take alternately, {seconds} s in all for each.");
     println!("Compared with the second implementation, which goes message by message: a guard against a step backwards, no measure of what could be had.");
-    println!("Tickets: one output buffer of 1,105 bytes, not cleared between the calls.");
+    println!(
+        "Tickets: one output buffer of {LONGEST_RESULT} bytes, not cleared between the calls."
+    );
     println!("Local calls: each with a state and an output written afresh, which is timed too.");
     ExitCode::SUCCESS
 }

@@ -1,15 +1,16 @@
 //! Compares the proved library with the second implementation.
 //!
 //! `compare [--short] [--seed NUMBER] [--count NUMBER]`: everything small, every
-//! byte at every place of a ticket, and then `count` random tickets with calls of
-//! start, speak and close. The last line says what was compared; a difference is
-//! shown by the smallest ticket that could be found, and the exit status is 1.
+//! byte at every place of a ticket, every count of a process, and then `count`
+//! random tickets with calls of start, speak and close. The last line says what
+//! was compared; a difference is shown by the smallest ticket that could be found,
+//! and the exit status is 1.
 
 use std::env;
 use std::process::ExitCode;
 use std::time::Instant;
 
-use against::comparison::{rooms_around, Comparison, Difference};
+use against::comparison::{rooms_at_limits, Comparison, Difference};
 use against::proved::Proved;
 use against::shrink::shrink;
 use against::{exhaustive, random};
@@ -50,10 +51,11 @@ fn compare(
         let mut rng = Rng::new(seed);
         (0..count).try_for_each(|_| random::ticket_and_calls(comparison, &mut rng))
     };
-    let parts: [Part; 6] = [
+    let parts: [Part; 7] = [
         ("every ticket of up to 4 processes", &exhaustive::tickets),
         ("every byte at every place of a ticket", &exhaustive::bytes),
         ("every output length for each n", &exhaustive::rooms),
+        ("every count of every process for each n", &exhaustive::counts),
         ("every start near the limits", &exhaustive::starts),
         ("speak and close near the limits", &exhaustive::states),
         ("random tickets and calls", &random_part),
@@ -69,7 +71,7 @@ fn compare(
 /// The difference on a text, if there is one with any of the usual rooms.
 fn difference_on(text: &[u8]) -> Option<String> {
     let n = Ticket::parse(text).map_or(1, |ticket| ticket.n);
-    let rooms = [vec![0, 2000], rooms_around(n, 1)].concat();
+    let rooms = [vec![0, 2000], rooms_at_limits(n)].concat();
     let mut comparison = Comparison::new(Proved);
     let compared = comparison
         .ticket(text, &rooms)

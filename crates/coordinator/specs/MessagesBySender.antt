@@ -1,0 +1,40 @@
+-- The messages by the process that sent them (document 02, Paper 2: "data, then commits, sent by that station. The counts over all stations add up to line
+-- 12").
+use mathlib.Core.List.{List}
+use mathlib.Core.Path.{_≡_}
+use Prim.Native.Nat.{ℕ, zero, suc, _-_, _≤_}
+use lib.ListN.{length, replicate}
+use Rattle.general.specs.Counts.{countOf, addAt, sumTo}
+use Rattle.consensus.specs.Instance.{Instance}
+use Rattle.consensus.specs.State.{State}
+use Rattle.consensus.specs.Consensus.{IsProcess}
+use Rattle.coordinator.specs.Count.{dataIn, commitsIn}
+use Rattle.coordinator.specs.Run.{runTo, runOf, lastRound}
+
+-- The messages of one kind that each process has sent after rounds 1 to r: what a round counts by `counted` is sent by its coordinator.
+unfoldable pub sentTo : (counted : Instance → ℕ → List State → ℕ) → Instance → (r : ℕ) → List ℕ
+sentTo counted x zero = replicate (x .processes) 0
+sentTo counted x (suc r) = addAt (suc r) (counted x (suc r) (runTo x r .states)) (sentTo counted x r)
+
+-- The data messages that each process sends in the whole run, and the commit messages.
+unfoldable pub dataBy : Instance → List ℕ
+dataBy x = sentTo dataIn x (lastRound x)
+
+unfoldable pub commitsBy : Instance → List ℕ
+commitsBy x = sentTo commitsIn x (lastRound x)
+
+-- Messages of one kind of an instance's run: `counted` in each round, `sent` by each process, and in `total`.
+pub record BySender (counted : Instance → ℕ → List State → ℕ) (sent : List ℕ) (total : ℕ) (x : Instance) : Type 0 where
+  -- there is a count for each process
+  pub each : length sent ≡ x .processes
+  -- they add up to the total
+  pub addUp : sumTo (countOf sent) (x .processes) ≡ total
+  -- the count of process p is that of round p, the only one that it coordinates; a round that the run does not have counts none
+  pub ofRound : (p : ℕ) → IsProcess x p → countOf sent p ≡ counted x p (runTo x (p - 1) .states)
+  -- it is at most as many as there are processes above p
+  pub toThoseAbove : (p : ℕ) → IsProcess x p → countOf sent p ≤ x .processes - p
+
+-- The claim, of a well-formed instance: so it is with the data messages and with the commit messages.
+pub record MessagesBySender (x : Instance) : Type 0 where
+  pub ofData : BySender dataIn (dataBy x) (runOf x .dataSent) x
+  pub ofCommits : BySender commitsIn (commitsBy x) (runOf x .commitsSent) x
