@@ -2,8 +2,8 @@
  * Charges the frames of a run to the processes that sent them.
  *
  * It reads a ticket on standard input, runs it, and prints how many data frames and commits each process sent, crashed
- * ones included, and how many all of them did: the counts of the result's last line. A ticket that is refused goes to
- * standard error with its number and line, and exit status 1.
+ * ones included, and their sums, which are the counts of the result's last line. A ticket that is refused goes to standard
+ * error with its number and line, and exit status 1.
  */
 #include <stdio.h>
 

@@ -41,7 +41,8 @@
  *                                     frames and commits it sent, at most n - process each. One that crashed has them too
  *   12 rounds f speakers data(2) commits(2)   the last line, 16 digits and 0A: the run's rounds; how many crashed
  *                                     undecided; how many coordinators began their own round up and undecided; frames sent
- *                                     in all, the sums of those above
+ *                                     in all, the sums of those above. Frames to crashed and
+ *                                     decided processes count
  *
  *   ticket      010402                        four processes, at most two crash
  *               02010000000A                  process 1 proposes 0000000A, and so on
@@ -151,11 +152,8 @@ extern "C" {
 #define UC_END_DECIDED 1
 #define UC_END_CRASHED 2
 
-/* The ten bytes of a process's line, two digits each: the place of each field. uc_line_byte reads one. */
+/* Of the ten bytes of a process's line, two digits each, the places of the process and of what it sent. uc_line_byte reads one. */
 #define UC_PROCESS_LINE_PROCESS 1
-#define UC_PROCESS_LINE_END 2
-#define UC_PROCESS_LINE_ROUND 3
-#define UC_PROCESS_LINE_VALUE 4
 #define UC_PROCESS_LINE_DATA 8
 #define UC_PROCESS_LINE_COMMITS 9
 

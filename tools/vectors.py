@@ -1,7 +1,8 @@
 """The vectors of tests/vectors/: a file for the base version and one for each paper, with a JSON object on each line.
 
 A text stands in a field by itself or, in a field whose name ends in _hex, in hexadecimal digits; base.jsonl has its tickets in
-digits under the plain name. A `result` is what is written when the papers up to the file's have landed. Those of base.jsonl and
+digits under the plain name. A `result` is what is written when the papers up to the file's have landed; 15 of base.jsonl, whose
+tickets have small letters, are what is written since Paper 1. Those of base.jsonl and
 paper-01.jsonl are without Paper 2: what is written now, with the two bytes that it adds struck out of each line 11 (`as_stored`), and
 where the room for it matters, an output that is longer by as much (`output`). `result_when_all_have_landed` is for later.
 """

@@ -6,7 +6,7 @@
  * answers to equal calls, refused calls that change nothing, bytes behind
  * those written left alone, of every result that the processes agree (document
  * 01, and demand 3), that it has no small letter, and that the counts of its
- * processes are such as they can be and add up (document 02, Paper 2), and that
+ * processes are possible and add up (document 02, Paper 2), and that
  * a ticket in other letters is answered alike and leaves the same bytes (Paper
  * 1); and then that the second implementation answers alike and leaves the same
  * bytes.

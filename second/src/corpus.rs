@@ -10,7 +10,8 @@ use crate::rng::Rng;
 use crate::ticket::{processes_above, Failure, Ticket, LONGEST_TICKET, MOST_PROCESSES};
 use crate::worked;
 
-/// How many tickets the stored corpus of `replay` has.
+/// How many tickets the stored corpus of `replay` has: the 600 from before
+/// Paper 2, and seven with outputs around the lengths of then.
 pub const STORED: usize = 607;
 
 /// The longest text of a corpus, and the most that `replay` takes.

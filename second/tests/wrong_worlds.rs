@@ -199,9 +199,9 @@ fn other_counts_by_process_in_case_1() {
         ("coordinator/every-process-has-the-total", [(5, 3); 4]),
         ("formats/commits-of-a-process-before-its-data", [(1, 3), (2, 2), (0, 0), (0, 0)]),
         ("formats/counts-of-the-next-process", [(2, 2), (0, 0), (0, 0), (0, 0)]),
-        ("formats/total-in-every-line", [(5, 1), (5, 2), (5, 0), (5, 0)]),
+        ("formats/total-in-every-line", [(5, 3); 4]),
         ("the counts of all stand in the first line", [(5, 3), (0, 0), (0, 0), (0, 0)]),
-        ("a crashed process has no counts", [(0, 0), (2, 2), (0, 0), (0, 0)]),
+        ("formats/crashed-process-shows-no-messages", [(0, 0), (2, 2), (0, 0), (0, 0)]),
         ("a crashed process has no data", [(0, 1), (2, 2), (0, 0), (0, 0)]),
         ("counts are cut to one bit", [(1, 1), (0, 0), (0, 0), (0, 0)]),
     ];

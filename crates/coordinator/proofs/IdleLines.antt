@@ -21,7 +21,7 @@ use Rattle.consensus.specs.Consensus.{IsProcess}
 use Rattle.coordinator.specs.Run.{Run, initial, withRound, runTo, runOf, lastRound, crashesOf, endOf}
 use Rattle.coordinator.specs.Count.{dataIn, commitsIn}
 use Rattle.coordinator.specs.WellFormed.{FaultAllowed, WellFormed}
-use Rattle.coordinator.specs.MessagesBySender.{sentTo, dataBy, commitsBy}
+use Rattle.coordinator.specs.MessagesBySender.{sentAfter, dataBy, commitsBy}
 use Rattle.coordinator.specs.IdleLines.{faultLeft, withoutIdle, IdleLinesChangeNothing}
 use Rattle.coordinator.proofs.Pointwise.{stateAt, length-states, state-at}
 use Rattle.coordinator.proofs.History.{undecided-decided, decided-crashed, decided-later, crashed-later}
@@ -127,8 +127,8 @@ module _ (x : Instance) (formed : WellFormed x) where
   -- What a round counts is what it adds to the total, so each process sends as many messages of a kind in both.
   sent-same : (counted : Instance → ℕ → List State → ℕ) (total : Run → ℕ)
       → ((y : Instance) (r : ℕ) (run : Run) → total (withRound y r run) ≡ total run + counted y r (run .states))
-      → (r : ℕ) → r ≤ lastRound x → sentTo counted (withoutIdle x) r ≡ sentTo counted x r
-  unfolding sentTo runTo withoutIdle
+      → (r : ℕ) → r ≤ lastRound x → sentAfter counted (withoutIdle x) r ≡ sentAfter counted x r
+  unfolding sentAfter runTo withoutIdle
   sent-same counted total more zero h = refl
   sent-same counted total more (suc r) h =
       ap₂ (addAt (suc r)) (counted-same (runs-same r (omega arith)) (runs-same (suc r) h)) (sent-same counted total more r (omega arith))

@@ -2,7 +2,7 @@
 use mathlib.Core.List.{List}
 use mathlib.Core.Path.{_≡_, refl, sym, ap, _∙_}
 use mathlib.Core.Bool.{false, cond}
-use Prim.Native.Nat.{ℕ, zero, suc, _+_, _-_, _≤_}
+use Prim.Native.Nat.{ℕ, zero, suc, _+_, _-_, _≤_, _<_}
 use native.Mathlib.Omega.{arith}
 use native.Mathlib.Decide.{le-ind}
 use borrow.Author.Tests.{le-leb, lt-leb}
@@ -17,12 +17,14 @@ use Rattle.consensus.specs.Consensus.{IsProcess}
 use Rattle.coordinator.specs.Undecided.{anyUndecided}
 use Rattle.coordinator.specs.Count.{speaks, dataIn, commitsIn}
 use Rattle.coordinator.specs.Run.{Run, initial, withRound, runTo, runOf, lastRound}
+use Rattle.coordinator.specs.RunRounds.{RunRounds}
 use Rattle.coordinator.specs.WellFormed.{WellFormed}
-use Rattle.coordinator.specs.MessagesBySender.{sentTo, dataBy, commitsBy, BySender, MessagesBySender}
+use Rattle.coordinator.specs.MessagesBySender.{sentAfter, dataBy, commitsBy, BySender, MessagesBySender}
 use Rattle.coordinator.proofs.Undecided.{none-undecided}
 use Rattle.coordinator.proofs.Ended.{run-ended}
 use Rattle.coordinator.proofs.Counts.{data-in-le, commits-in-le}
 use Rattle.coordinator.proofs.Settled.{run-over}
+use Rattle.coordinator.proofs.RunRounds.{run-rounds}
 
 -- A round that begins with no process up and undecided counts no message.
 pub data-silent : (x : Instance) (r : ℕ) (states : List State) → anyUndecided states ≡ false → dataIn x r states ≡ 0
@@ -42,39 +44,39 @@ module _ (counted : Instance → ℕ → List State → ℕ) (x : Instance) wher
   round-next : (r : ℕ) → counted x (suc r) (runTo x r .states) ≡ inRound (suc r)
   round-next r = let before : r ≡ suc r - 1 = omega arith in ap (λ (q : ℕ). counted x (suc r) (runTo x q .states)) before
 
-  sent-first : sentTo counted x 0 ≡ replicate (x .processes) 0
-  unfolding sentTo
+  sent-first : sentAfter counted x 0 ≡ replicate (x .processes) 0
+  unfolding sentAfter
   sent-first = refl
 
-  sent-next : (r : ℕ) → sentTo counted x (suc r) ≡ addAt (suc r) (inRound (suc r)) (sentTo counted x r)
-  unfolding sentTo
-  sent-next r = ap (λ (k : ℕ). addAt (suc r) k (sentTo counted x r)) (round-next r)
+  sent-next : (r : ℕ) → sentAfter counted x (suc r) ≡ addAt (suc r) (inRound (suc r)) (sentAfter counted x r)
+  unfolding sentAfter
+  sent-next r = ap (λ (k : ℕ). addAt (suc r) k (sentAfter counted x r)) (round-next r)
 
   -- The same of round r and the one before.
-  pub sent-round : (r : ℕ) → 1 ≤ r → sentTo counted x r ≡ addAt r (inRound r) (sentTo counted x (r - 1))
+  pub sent-round : (r : ℕ) → 1 ≤ r → sentAfter counted x r ≡ addAt r (inRound r) (sentAfter counted x (r - 1))
   sent-round zero h = absurd (let z : ⊥ = omega arith in z)
-  sent-round (suc r) h = let before : r ≡ suc r - 1 = omega arith in sent-next r ∙ ap (λ (q : ℕ). addAt (suc r) (inRound (suc r)) (sentTo counted x q)) before
+  sent-round (suc r) h = let before : r ≡ suc r - 1 = omega arith in sent-next r ∙ ap (λ (q : ℕ). addAt (suc r) (inRound (suc r)) (sentAfter counted x q)) before
 
-  pub length-sent : (r : ℕ) → length (sentTo counted x r) ≡ x .processes
-  length-sent = length-by (x .processes) (sentTo counted x) inRound sent-first sent-next
+  pub length-sent : (r : ℕ) → length (sentAfter counted x r) ≡ x .processes
+  length-sent = length-by (x .processes) (sentAfter counted x) inRound sent-first sent-next
 
   -- After rounds 1 to r process p has sent what round p counts, if that is one of them.
-  pub count-sent : (r p : ℕ) → 1 ≤ p → p ≤ x .processes → countOf (sentTo counted x r) p ≡ cond (leb p r) (inRound p) 0
-  count-sent = count-by (x .processes) (sentTo counted x) inRound sent-first sent-next
+  pub count-sent : (r p : ℕ) → 1 ≤ p → p ≤ x .processes → countOf (sentAfter counted x r) p ≡ cond (leb p r) (inRound p) 0
+  count-sent = count-by (x .processes) (sentAfter counted x) inRound sent-first sent-next
 
   module _ (silent : (r : ℕ) (states : List State) → anyUndecided states ≡ false → counted x r states ≡ 0) where
     -- Rounds after the run's end add nothing.
-    pub sent-ended : (r m : ℕ) → anyUndecided (runTo x r .states) ≡ false → r ≤ m → sentTo counted x m ≡ sentTo counted x r
-    unfolding sentTo
+    pub sent-ended : (r m : ℕ) → anyUndecided (runTo x r .states) ≡ false → r ≤ m → sentAfter counted x m ≡ sentAfter counted x r
+    unfolding sentAfter
     sent-ended r m h le =
-        le-ind (λ (k : ℕ). sentTo counted x k ≡ sentTo counted x r) refl
+        le-ind (λ (k : ℕ). sentAfter counted x k ≡ sentAfter counted x r) refl
         (λ k within same.
         let over = ap (λ (run : Run). anyUndecided (run .states)) (run-ended x r k h within) ∙ h in
         rw (silent (suc k) (runTo x k .states) over, none-added) same) m le
 
     module _ (formed : WellFormed x) where
       -- The round of a process above t + 1 begins after the run's end.
-      of-round : (p : ℕ) → IsProcess x p → countOf (sentTo counted x (lastRound x)) p ≡ inRound p
+      of-round : (p : ℕ) → IsProcess x p → countOf (sentAfter counted x (lastRound x)) p ≡ inRound p
       unfolding runOf
       of-round p process = count-sent (lastRound x) p (process .first) (process .last) ∙ by-order p (lastRound x) within beyond
         where
@@ -87,6 +89,21 @@ module _ (counted : Instance → ℕ → List State → ℕ) (x : Instance) wher
               let same = run-ended x (lastRound x) (p - 1) over (omega arith) in
               rw (lt-leb p (lastRound x) h) (sym (silent p (runTo x (p - 1) .states) (ap (λ (run : Run). anyUndecided (run .states)) same ∙ over)))
 
+      -- A round that is none of the run's begins with no process up and undecided.
+      after-run : (p : ℕ) → IsProcess x p → runOf x .rounds < p → anyUndecided (runTo x (p - 1) .states) ≡ false
+      unfolding runOf RunRounds
+      after-run p process late = by-order p (lastRound x) within beyond
+        where
+          within : p ≤ lastRound x → anyUndecided (runTo x (p - 1) .states) ≡ false
+          within h =
+              let next : suc (p - 1) ≡ p = omega (arith, process .first) in
+              run-rounds x (p - 1) (lastRound x) (omega (arith, process .first)) ∙ rw next (lt-leb p _ late)
+
+          beyond : suc (lastRound x) ≤ p → anyUndecided (runTo x (p - 1) .states) ≡ false
+          beyond h =
+              let over = run-over x formed in
+              ap (λ (run : Run). anyUndecided (run .states)) (run-ended x (lastRound x) (p - 1) over (omega arith)) ∙ over
+
       module _ (total : Run → ℕ) (none : total (initial x) ≡ 0) (more : (r : ℕ) (run : Run) → total (withRound x r run) ≡ total run + counted x r (run .states))
           (few : (r : ℕ) (states : List State) → 1 ≤ r → r ≤ x .processes → counted x r states ≤ x .processes - r) where
         total-first : total (runTo x 0) ≡ 0
@@ -97,15 +114,16 @@ module _ (counted : Instance → ℕ → List State → ℕ) (x : Instance) wher
         unfolding runTo
         total-next r = more (suc r) (runTo x r) ∙ ap (λ (k : ℕ). total (runTo x r) + k) (round-next r)
 
-        by-sender : BySender counted (sentTo counted x (lastRound x)) (total (runOf x)) x
+        by-sender : BySender counted (sentAfter counted x (lastRound x)) (total (runOf x)) x
         unfolding runOf
         by-sender =
             record {
               each = length-sent (lastRound x);
               addUp =
-                  sum-by (x .processes) (sentTo counted x) inRound sent-first sent-next (λ q. total (runTo x q)) total-first total-next (lastRound x)
+                  sum-by (x .processes) (sentAfter counted x) inRound sent-first sent-next (λ q. total (runTo x q)) total-first total-next (lastRound x)
                   (omega arith);
               ofRound = of-round;
+              afterTheRun = λ p process late. of-round p process ∙ silent p _ (after-run p process late);
               toThoseAbove = λ p process. rw (of-round p process) (few p _ (process .first) (process .last));
             }
 

@@ -2,7 +2,7 @@
 -- 12").
 use mathlib.Core.List.{List}
 use mathlib.Core.Path.{_≡_}
-use Prim.Native.Nat.{ℕ, zero, suc, _-_, _≤_}
+use Prim.Native.Nat.{ℕ, zero, suc, _-_, _≤_, _<_}
 use lib.ListN.{length, replicate}
 use Rattle.general.specs.Counts.{countOf, addAt, sumTo}
 use Rattle.consensus.specs.Instance.{Instance}
@@ -12,16 +12,16 @@ use Rattle.coordinator.specs.Count.{dataIn, commitsIn}
 use Rattle.coordinator.specs.Run.{runTo, runOf, lastRound}
 
 -- The messages of one kind that each process has sent after rounds 1 to r: what a round counts by `counted` is sent by its coordinator.
-unfoldable pub sentTo : (counted : Instance → ℕ → List State → ℕ) → Instance → (r : ℕ) → List ℕ
-sentTo counted x zero = replicate (x .processes) 0
-sentTo counted x (suc r) = addAt (suc r) (counted x (suc r) (runTo x r .states)) (sentTo counted x r)
+unfoldable pub sentAfter : (counted : Instance → ℕ → List State → ℕ) → Instance → (r : ℕ) → List ℕ
+sentAfter counted x zero = replicate (x .processes) 0
+sentAfter counted x (suc r) = addAt (suc r) (counted x (suc r) (runTo x r .states)) (sentAfter counted x r)
 
 -- The data messages that each process sends in the whole run, and the commit messages.
 unfoldable pub dataBy : Instance → List ℕ
-dataBy x = sentTo dataIn x (lastRound x)
+dataBy x = sentAfter dataIn x (lastRound x)
 
 unfoldable pub commitsBy : Instance → List ℕ
-commitsBy x = sentTo commitsIn x (lastRound x)
+commitsBy x = sentAfter commitsIn x (lastRound x)
 
 -- Messages of one kind of an instance's run: `counted` in each round, `sent` by each process, and in `total`.
 pub record BySender (counted : Instance → ℕ → List State → ℕ) (sent : List ℕ) (total : ℕ) (x : Instance) : Type 0 where
@@ -29,9 +29,11 @@ pub record BySender (counted : Instance → ℕ → List State → ℕ) (sent : 
   pub each : length sent ≡ x .processes
   -- they add up to the total
   pub addUp : sumTo (countOf sent) (x .processes) ≡ total
-  -- the count of process p is that of round p, the only one that it coordinates; a round that the run does not have counts none
+  -- the count of process p is that of round p, the only one that it coordinates
   pub ofRound : (p : ℕ) → IsProcess x p → countOf sent p ≡ counted x p (runTo x (p - 1) .states)
-  -- it is at most as many as there are processes above p
+  -- a process whose round is none of the run's has sent none
+  pub afterTheRun : (p : ℕ) → IsProcess x p → runOf x .rounds < p → countOf sent p ≡ 0
+  -- the count is at most as many as there are processes above p
   pub toThoseAbove : (p : ℕ) → IsProcess x p → countOf sent p ≤ x .processes - p
 
 -- The claim, of a well-formed instance: so it is with the data messages and with the commit messages.

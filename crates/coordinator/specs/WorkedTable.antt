@@ -1,4 +1,5 @@
--- Runs worked out by hand (document 01, 'Worked runs', cases 1 to 9; 'The result', last paragraph, for the rounds that qualify for settling).
+-- Runs worked out by hand (document 01, 'Worked runs', cases 1 to 9; 'The result', last paragraph, for the rounds that qualify for settling; document 02,
+-- Paper 2, for what each process sent).
 -- Cases 1 to 12 as texts, with their results and refusals, are in crate formats.
 use mathlib.Core.List.{List, [], _∷_}
 use Prim.Native.Nat.{ℕ}

@@ -18,7 +18,7 @@ use Rattle.consensus.specs.State.{State, undecided, stateOf}
 use Rattle.coordinator.specs.Undecided.{isUndecided, anyUndecided}
 use Rattle.coordinator.specs.Count.{dataIn, commitsIn}
 use Rattle.coordinator.specs.Run.{Run, initial, withRound, runTo, lastRound}
-use Rattle.coordinator.specs.MessagesBySender.{sentTo}
+use Rattle.coordinator.specs.MessagesBySender.{sentAfter}
 use Rattle.consensus.specs.WellFormed.{FaultAllowedBy}
 use Rattle.coordinator.specs.WellFormed.{PointAllowed, WellFormed}
 use Rattle.coordinator.proofs.Pointwise.{states-ext, length-states, initial-state}
@@ -84,8 +84,8 @@ module _ (x : InstanceTable) (w : WellFormed (instanceOf x)) where
   unfolding isUndecided
   all-undecided = first-set (x .n) ∙ set-same (x .n) _ _ (λ p h g. sym (ap isUndecided (start-state p h g)))
 
-  none-sent : (counts : List ℕ) (counted : Instance → ℕ → List State → ℕ) → counts ≡ replicate 64 0 → take (x .n) counts ≡ sentTo counted (instanceOf x) 0
-  unfolding sentTo
+  none-sent : (counts : List ℕ) (counted : Instance → ℕ → List State → ℕ) → counts ≡ replicate 64 0 → take (x .n) counts ≡ sentAfter counted (instanceOf x) 0
+  unfolding sentAfter
   none-sent counts counted none = rw (none, processes-of x) (take-replicate {A = ℕ} (x .n) 64 0 (limits x w .1))
 
   pub at-first-round : (last : ℕ) (faulty : List ℕ) (run : RunTable) (dataCounts commitCounts : List ℕ) → last ≤ x .t + 1
@@ -219,8 +219,8 @@ module _ (x : InstanceTable) (last : ℕ) (faulty : List ℕ) (run : RunTable) (
         (omega (arith, after, before), omega (arith, few, now .well-formed .at-most-64))
 
     -- Stored for the round's coordinator, which had sent none, it is what that process has sent.
-    kept-next : (counted : Instance → ℕ → List State → ℕ) (counts : List ℕ) → take (x .n) counts ≡ sentTo counted (instanceOf x) (r - 1) → (d : ℕ)
-        → d ≡ counted (instanceOf x) r (runTo (instanceOf x) (r - 1) .states) → take (x .n) (set counts (r - 1) d) ≡ sentTo counted (instanceOf x) r
+    kept-next : (counted : Instance → ℕ → List State → ℕ) (counts : List ℕ) → take (x .n) counts ≡ sentAfter counted (instanceOf x) (r - 1) → (d : ℕ)
+        → d ≡ counted (instanceOf x) r (runTo (instanceOf x) (r - 1) .states) → take (x .n) (set counts (r - 1) d) ≡ sentAfter counted (instanceOf x) r
     unfolding countOf
     kept-next counted counts before d adds =
         let places : length (take (x .n) counts) ≡ x .n = ap length before ∙ length-sent counted (instanceOf x) (r - 1) ∙ processes-of x in

@@ -1,4 +1,4 @@
--- For the code alone: what a run's table and the counts of each process's messages hold before the run and after it.
+-- For the code alone: what the counts of each process's messages hold before the rounds, and what they and the run's table hold after them.
 use mathlib.Core.List.{List}
 use mathlib.Core.Path.{_≡_}
 use Prim.Native.Nat.{ℕ}
@@ -6,7 +6,7 @@ use lib.ListN.{take, replicate}
 use Rattle.consensus.specs.Instance.{Instance}
 use Rattle.coordinator.specs.Count.{dataIn, commitsIn}
 use Rattle.coordinator.specs.Run.{runTo, lastRound}
-use Rattle.coordinator.specs.MessagesBySender.{sentTo}
+use Rattle.coordinator.specs.MessagesBySender.{sentAfter}
 use Rattle.tables.specs.declared.RunTable.{RunTable}
 use Rattle.tables.specs.RunOfTable.{runFrom}
 use Rattle.coordinator_round.specs.Round.{undecidedSet}
@@ -19,8 +19,8 @@ NoneSent dataCounts commitCounts = (dataCounts ≡ replicate 64 0) × (commitCou
 pub record RunTo (x : Instance) (r n : ℕ) (table : RunTable) (dataCounts commitCounts : List ℕ) : Type 0 where
   pub run : runFrom n table ≡ runTo x r
   pub kept : table .undecided ≡ undecidedSet n table
-  pub dataSent : take n dataCounts ≡ sentTo dataIn x r
-  pub commitsSent : take n commitCounts ≡ sentTo commitsIn x r
+  pub dataSent : take n dataCounts ≡ sentAfter dataIn x r
+  pub commitsSent : take n commitCounts ≡ sentAfter commitsIn x r
 
 -- The same of the whole run, so that they are `runOf`, `dataBy` and `commitsBy`.
 abbrev pub RunOf : Instance → (n : ℕ) → RunTable → (dataCounts commitCounts : List ℕ) → Type 0

@@ -78,8 +78,8 @@ pub fn run_to<'a>(
             return run;
         }
         let i = (r - 1) as usize;
-        let data = run.data_sent;
-        let commits = run.commits_sent;
+        let data_before = run.data_sent;
+        let commits_before = run.commits_sent;
         run = coordinator_round::run_round(
             n,
             r,
@@ -90,8 +90,8 @@ pub fn run_to<'a>(
             faulty[i],
             run,
         );
-        data_by[i] = (run.data_sent - data) as u8;
-        commits_by[i] = (run.commits_sent - commits) as u8;
+        data_by[i] = (run.data_sent - data_before) as u8;
+        commits_by[i] = (run.commits_sent - commits_before) as u8;
         r += 1;
     }
     run

@@ -76,7 +76,7 @@ module _ (dataBy commitsBy : List ℕ) where
   unfolding Fits sentIn isProcessLine isKind endBytes bytesOf
   sent-read-back p (undecided v) fits = absurd fits
   sent-read-back p (decided r v) fits = rw (eq-eqb p p refl)
-  sent-read-back p (crashed r) fits = rw (eq-eqb p p refl)
+  sent-read-back p (crashed r) fits = rw (eq-eqb p p refl, number-bytes 4 0 (omega arith))
 
   abbrev processLineOf : ℕ → State → Line
   processLineOf p s = bytes (lineBytes dataBy commitsBy p s)

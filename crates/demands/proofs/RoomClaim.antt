@@ -1,34 +1,65 @@
 -- The room for a result, from what running answers. Assumes nothing.
 use mathlib.Core.List.{List}
 use mathlib.Core.Path.{_≡_, _∙_}
-use mathlib.Core.Bool.{true, false}
-use Prim.Native.Nat.{ℕ, _+_, _*_, _≤_, _<_}
+use Prim.Native.Nat.{ℕ, _≤_, _<_}
 use borrow.Author.Tests.{lt-ltb, le-ltb}
-use lib.Dec.{ltb}
 use lib.ListN.{length}
 use Rattle.consensus.specs.Instance.{Instance}
-use Rattle.formats.specs.Reading.{accepted}
+use Rattle.formats.specs.Reading.{accepted, refused}
 use Rattle.formats.specs.Ticket.{readTicket}
-use Rattle.formats.specs.ResultLine.{resultSize}
+use Rattle.formats.specs.ResultLine.{resultText, resultSize}
 use Rattle.formats.specs.Running.{resultIn, running, bufferAfter}
 use Rattle.formats.specs.Code.{refusalCode, runCode, RunCall}
 use Rattle.formats.proofs.AnswerCases.{result-sizes}
 use Rattle.formats.proofs.ResultLength.{length-text}
 use Rattle.formats.proofs.WellFormed.{accepted-well-formed}
-use Rattle.demands.specs.RoomClaim.{RoomClaim}
+use Rattle.running.specs.Answer.{answerOf, Ran}
+use Rattle.running.specs.declared.RunAnswer.{RunAnswer}
+use Rattle.running.specs.declared.RunAnswer.the-variants.{Written, Refused}
+use Rattle.demands.specs.RoomClaim.{needed, Holds, RoomClaim}
 
-module _ (text before after : List ℕ) (code : ℕ) (x : Instance) (read : readTicket text ≡ accepted x) (call : RunCall text before after code) where
-  short : length before < 21 * x .processes + 17 → (code ≡ refusalCode 9 0) × (after ≡ before)
-  unfolding running resultIn runCode bufferAfter
-  short h =
-      let few : ltb (length before) (resultSize (x .processes)) ≡ true = lt-ltb (length before) (resultSize (x .processes)) (rw (result-sizes .needed (x .processes)) h) in
-      (rw (read, few) at (call .answered), rw (read, few) at (call .buffer))
+module _ (text before : List ℕ) (x : Instance) (read : readTicket text ≡ accepted x) where
+  -- What running answers, by the room.
+  too-short : length before < needed (x .processes) → running text (length before) ≡ refused 9 0
+  unfolding running resultIn
+  too-short h = rw (read, lt-ltb (length before) (resultSize (x .processes)) (rw (result-sizes .needed (x .processes)) h))
 
-  enough : 21 * x .processes + 17 ≤ length before → code ≡ 21 * x .processes + 17
-  unfolding running resultIn runCode
-  enough h =
-      let fits : ltb (length before) (resultSize (x .processes)) ≡ false = le-ltb (length before) (resultSize (x .processes)) (rw (result-sizes .needed (x .processes)) h) in
-      (rw (read, fits) at (call .answered)) ∙ length-text x (accepted-well-formed text x read) ∙ result-sizes .needed (x .processes)
+  fits : needed (x .processes) ≤ length before → running text (length before) ≡ accepted (resultText x)
+  unfolding running resultIn
+  fits h = rw (read, le-ltb (length before) (resultSize (x .processes)) (rw (result-sizes .needed (x .processes)) h))
+
+  size : length (resultText x) ≡ needed (x .processes)
+  size = length-text x (accepted-well-formed text x read) ∙ result-sizes .needed (x .processes)
+
+short : (text before after : List ℕ) (answer : RunAnswer) (x : Instance) → readTicket text ≡ accepted x → Ran text before after answer
+    → length before < needed (x .processes) → (answer ≡ Refused 9 0) × (after ≡ before)
+unfolding answerOf bufferAfter
+short text before after answer x read ran h =
+    let few = too-short text before x read h in
+    (rw few at (ran .answered), rw few at (ran .buffer))
+
+short-called : (text before after : List ℕ) (code : ℕ) (x : Instance) → readTicket text ≡ accepted x → RunCall text before after code
+    → length before < needed (x .processes) → (code ≡ refusalCode 9 0) × (after ≡ before)
+unfolding runCode bufferAfter
+short-called text before after code x read call h =
+    let few = too-short text before x read h in
+    (rw few at (call .answered), rw few at (call .buffer))
+
+enough : (text before after : List ℕ) (answer : RunAnswer) (x : Instance) → readTicket text ≡ accepted x → Ran text before after answer
+    → needed (x .processes) ≤ length before → (answer ≡ Written (needed (x .processes))) × Holds x before after
+unfolding answerOf bufferAfter
+enough text before after answer x read ran h =
+    let whole = fits text before x read h in
+    let long = size text before x read in
+    (rw (whole, long) at (ran .answered), rw (whole, long) at (ran .buffer))
+
+enough-called : (text before after : List ℕ) (code : ℕ) (x : Instance) → readTicket text ≡ accepted x → RunCall text before after code
+    → needed (x .processes) ≤ length before → (code ≡ needed (x .processes)) × Holds x before after
+unfolding runCode bufferAfter
+enough-called text before after code x read call h =
+    let whole = fits text before x read h in
+    let long = size text before x read in
+    (rw (whole, long) at (call .answered), rw (whole, long) at (call .buffer))
 
 pub room-claim : RoomClaim
-room-claim = record { short = short; enough = enough }
+room-claim = record { short = short; shortCalled = short-called; enough = enough; enoughCalled = enough-called }

@@ -46,7 +46,8 @@ pub record Sent : Type 0 where
   pub commitsSent : ℕ
 
 unfoldable pub sentIn : (p : ℕ) → List ℕ → Option Sent
-sentIn p b = cond (isProcessLine p 1 b || isProcessLine p 2 b) (some (record { dataSent = getD b 8 0; commitsSent = getD b 9 0 })) none
+sentIn p b =
+    cond (isProcessLine p 1 b || (isProcessLine p 2 b && eqb (valueIn b) 0)) (some (record { dataSent = getD b 8 0; commitsSent = getD b 9 0 })) none
 
 unfoldable pub sentFrom : ℕ → Line → Option Sent
 sentFrom p (bytes b) = sentIn p b

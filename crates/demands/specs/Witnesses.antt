@@ -1,5 +1,6 @@
 -- The premises of the claims can be met: case 1 (document 01, 'Worked runs') is run, as it stands, in mixed letters and into a buffer that is too short, and
--- paired with case 3 and with itself without its failure line; its lines say what each process sent. (What else is answered on case 1 in mixed letters, and on refused texts in two letterings: formats/specs/LetteringCases.)
+-- paired with case 3 and with itself without its failure line; its lines say what each process sent. (What else is answered on case 1 in mixed letters, and
+-- on refused texts in two letterings: formats/specs/LetteringCases.)
 use mathlib.Core.List.{List, [], _∷_, _++_, map}
 use mathlib.Core.Option.{Option, some, none}
 use mathlib.Core.Path.{_≡_}
@@ -66,5 +67,6 @@ pub record Witnesses : Type 0 where
   -- the last line is no station line
   pub sent : SentMet crashText (textOf (case1 .output)) (sentAs 3 1 ∷ sentAs 2 2 ∷ sentAs 0 0 ∷ sentAs 0 0 ∷ none ∷ [])
       (record { rounds = 2; crashes = 1; speakers = 2; dataSent = 5; commitsSent = 3 })
-  -- and a buffer of 100 bytes is too short for it
+  -- a buffer of 100 bytes is too short for it, and one of 101 is not
   pub short : RunCall crashText (replicate 100 165) (replicate 100 165) (refusalCode 9 0)
+  pub fits : RunCall crashText (replicate 101 165) (textOf (case1 .output)) 101

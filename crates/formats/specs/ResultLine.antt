@@ -1,4 +1,4 @@
--- The lines of a result and of a refusal (document 01, 'The result').
+-- The lines of a result and of a refusal (document 01, 'The result'; document 02, Paper 2, for the last two bytes of a process's line).
 use mathlib.Core.List.{List, [], _∷_, _++_}
 use Prim.Native.Nat.{ℕ, _+_, _*_}
 use Rattle.general.specs.BigEndian.{bytesOf}

@@ -1,4 +1,5 @@
--- The marked cases of document 01, 'Worked runs': each ticket's lines, and the lines that the program writes for it.
+-- The marked cases of document 01, 'Worked runs': each ticket's lines, and the lines that the program writes for it, with the two bytes that document 02,
+-- Paper 2, adds to each line 11.
 use mathlib.Core.List.{List, [], _∷_, _++_}
 use Prim.Native.Nat.{ℕ}
 use Prim.Native.String.{String}

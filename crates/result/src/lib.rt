@@ -1,4 +1,5 @@
-// Writing the lines of a result and of a refusal (document 01, 'The result'), each straight into the part of the output that follows the line before it.
+// Writing the lines of a result and of a refusal (document 01, 'The result'; document 02, Paper 2), each straight into the part of the output that follows the
+// line before it.
 ghost use mathlib.Core.Path.{_≡_};
 ghost use mathlib.Core.List.{[], _∷_, _++_};
 ghost use Prim.Native.Nat.{_*_, _≤_};

@@ -469,10 +469,8 @@ mod tests {
             .map(|line| [2, 8, 9].map(|place| number_at(line, place, 1).expect("digits")))
             .collect();
         for (place, line) in result.chunks_exact_mut(PROCESS_LINE_LENGTH).enumerate() {
-            if place < lines.len() {
-                let [data, commits] = miscounted(mistake, &lines, place).map(|count| count as u8);
-                write_line(&[data, commits], &mut line[16..]);
-            }
+            let [data, commits] = miscounted(mistake, &lines, place).map(|count| count as u8);
+            write_line(&[data, commits], &mut line[16..]);
         }
     }
 
@@ -635,7 +633,8 @@ mod tests {
                 Mistake::CutsCountsTo5Bits | Mistake::CutsCountsAt62 => largest.clone(),
                 _ => worked::case(1),
             };
-            // The last process sends to none, so the sums stay if counts move on by one line.
+            // The last process sends to none, so the sums stay if counts move on by one line;
+            // and they stay if all counts are put together in one.
             let sums_stay = [Mistake::CountsAtTheProcessAfter, Mistake::CountsOfAllInTheFirstLine];
             let expected = [!sums_stay.contains(&mistake), true];
             assert_eq!(seen_by_itself(mistake, &ticket), expected, "{mistake:?}");

@@ -234,6 +234,7 @@ impl Run {
                 counts.speakers += 1;
                 counts.data += data;
                 counts.commits += commits;
+                // Charged to process r in round r, whoever is taken for its coordinator.
                 let by = &mut sent[usize::from(round) - 1];
                 *by = (by.0 + data, by.1 + commits);
             }

@@ -459,7 +459,7 @@ const SENT: &[World] = &[
     world(
         "formats/total-in-every-line",
         &[CountsOwnRound, CountsAddUp, CountsThoseAbove],
-        Rules { shown: |line| (line.in_all.0, line.own().1), ..RIGHT },
+        Rules { shown: |line| line.in_all, ..RIGHT },
     ),
     world(
         "the counts of all stand in the first line",
@@ -467,7 +467,7 @@ const SENT: &[World] = &[
         Rules { shown: |line| if line.process == 1 { line.in_all } else { (0, 0) }, ..RIGHT },
     ),
     world(
-        "a crashed process has no counts",
+        "formats/crashed-process-shows-no-messages",
         &[CountsOwnRound, CountsAddUp],
         Rules { shown: |line| if has_crashed(line.end) { (0, 0) } else { line.own() }, ..RIGHT },
     ),
