@@ -6,7 +6,7 @@
 # make vectors                compute the definitions on every vector of tests/vectors/
 # make vectors-part           the same on a part that has every kind of vector
 # make library-test           the compiled library on every vector of tests/vectors/
-# make host-test              simulate and examples/host on every ticket of tests/vectors/, examples/frames on Paper 2's, and what cannot be read or written
+# make host-test              simulate and examples/host on every ticket of tests/vectors/, examples/frames on those of Papers 2 and 4, and what cannot be read or written
 # make interface-test         the header's prototypes against the library's, and docs/FORMATS.md against the header
 # make show-test              explain and picture on every ticket of tests/vectors/
 # make second-test            the second implementation's own tests

@@ -1,9 +1,10 @@
 /*
- * Charges the frames of a run to the processes that sent them.
+ * Charges the frames of a run that the switch carried to the processes that sent them.
  *
- * It reads a ticket on standard input, runs it, and prints how many data frames and commits each process sent, crashed
- * ones included, and their sums, which are the counts of the result's last line. A ticket that is refused goes to standard
- * error with its number and line, and exit status 1.
+ * It reads a ticket on standard input, runs it, and prints how many data frames and commits of each process were carried,
+ * crashed ones included, and their sums, which are the counts of the result's last line. Frames to processes that had
+ * crashed or decided are dropped, and nobody is charged for them. A ticket that is refused goes to standard error with its
+ * number and line, and exit status 1.
  */
 #include <stdio.h>
 

@@ -2,11 +2,11 @@
  * A host of n separate process parts over an in-memory switch.
  *
  * It reads a ticket on standard input, asks the library whether it is accepted, and then does what desks on a switch
- * do: it starts a part for each process, and in each round has every part that is up speak, carries the frames that the
- * ticket lets through, and has every part close on what it heard (agreement.h, THE HOST'S OBLIGATIONS: the switch is in
- * memory, so that a frame has left and arrived at once). It counts what leaves each part and prints the process lines: what
- * `simulate` prints without its last line. A ticket that is refused goes to standard error with its number and line, and
- * exit status 1.
+ * do: it starts a part for each process, and in each round has every part that is up speak, hands the frames that the
+ * ticket lets through to the switch, and has every part close on what it heard (agreement.h, THE HOST'S OBLIGATIONS: the
+ * switch is in memory, so that a frame has left and arrived at once). The switch drops frames to parts that have crashed or
+ * decided, carries the others and counts them for the part that sent them. It prints the process lines: what `simulate`
+ * prints without its last line. A ticket that is refused goes to standard error with its number and line, and exit status 1.
  */
 #include <stdbool.h>
 #include <stdio.h>
@@ -26,10 +26,15 @@ struct ticket {
     struct fault fault[UC_MOST_PROCESSES + 1];
 };
 
-/* A process part: its nine bytes, the round in which it crashed, 0 while it is up, and the frames that have left it. */
+/*
+ * A process part: its nine bytes, the round in which it crashed, 0 while it is up; the frames of it that were carried; and
+ * what it has heard in this round.
+ */
 struct part {
     uint8_t state[UC_STATE_BYTES];
     unsigned crashed, data, commits;
+    uint8_t heard[UC_MOST_PROCESSES * UC_SPEECH_BYTES];
+    size_t length;
 };
 
 /* Letters are of either case. */
@@ -90,22 +95,30 @@ static size_t let_through(const struct ticket *ticket, unsigned q, unsigned r, u
     }
 }
 
-/* Counts what leaves process q in round r, in which it spoke: frames to crashed and decided processes too. */
-static void count_sent(const struct ticket *ticket, struct part *part, unsigned q, unsigned r)
+/* Whether a part is called in a round: it is up, and has not decided. */
+static bool takes_part(const struct part *part)
+{
+    return !part->crashed && part->state[UC_STATE_MARK] == UC_MARK_OPEN;
+}
+
+/*
+ * The switch, with what process q says in round r: frames to parts that have crashed or decided are dropped, the others
+ * are carried and counted. All parts speak before any closes or crashes, so that each is still what it was when the round
+ * began, and frames to one that crashes in it are carried.
+ */
+static void carry(const struct ticket *ticket, struct part *part, unsigned q, unsigned r, const uint8_t *said)
 {
     for (unsigned p = q + 1; p <= ticket->n; p++) {
         size_t reach = let_through(ticket, q, r, p);
+        if (!takes_part(&part[p]))
+            continue;
+        memcpy(part[p].heard + part[p].length, said, reach);
+        part[p].length += reach;
         if (reach >= UC_DATA_BYTES)
             part[q].data++;
         if (reach == UC_SPEECH_BYTES)
             part[q].commits++;
     }
-}
-
-/* Whether a part is called in a round: it is up, and has not decided. */
-static bool takes_part(const struct part *part)
-{
-    return !part->crashed && part->state[UC_STATE_MARK] == UC_MARK_OPEN;
 }
 
 /* Says which call was refused, and why. */
@@ -119,18 +132,15 @@ static bool refused(const char *call, unsigned process, unsigned refusal)
 /* One round: all parts that are up speak; then those that do not crash in it close. False if a call was refused. */
 static bool run_round(const struct ticket *ticket, struct part *part, unsigned r)
 {
-    uint8_t said[UC_MOST_PROCESSES + 1][UC_SPEECH_BYTES];
-    size_t yielded[UC_MOST_PROCESSES + 1] = {0};
-
     for (unsigned q = 1; q <= ticket->n; q++) {
+        uint8_t said[UC_SPEECH_BYTES];
         if (!takes_part(&part[q]))
             continue;
-        uint64_t answer = uc_speak(part[q].state, UC_STATE_BYTES, said[q], UC_SPEECH_BYTES);
+        uint64_t answer = uc_speak(part[q].state, UC_STATE_BYTES, said, sizeof said);
         if (refused("uc_speak", q, uc_speak_refusal(answer)))
             return false;
-        yielded[q] = (size_t)answer;
-        if (yielded[q])
-            count_sent(ticket, part, q, r);
+        if (answer)
+            carry(ticket, part, q, r, said);
     }
     for (unsigned p = 1; p <= ticket->n; p++) {
         if (!takes_part(&part[p]))
@@ -139,16 +149,10 @@ static bool run_round(const struct ticket *ticket, struct part *part, unsigned r
             part[p].crashed = r;
             continue;
         }
-        uint8_t heard[UC_MOST_PROCESSES * UC_SPEECH_BYTES + 1];
-        size_t length = 0;
-        for (unsigned q = 1; q <= ticket->n; q++) {
-            size_t reach = let_through(ticket, q, r, p);
-            size_t size = reach < yielded[q] ? reach : yielded[q];
-            memcpy(heard + length, said[q], size);
-            length += size;
-        }
-        if (refused("uc_close", p, uc_close_refusal(uc_close(part[p].state, UC_STATE_BYTES, heard, length))))
+        uint64_t answer = uc_close(part[p].state, UC_STATE_BYTES, part[p].heard, part[p].length);
+        if (refused("uc_close", p, uc_close_refusal(answer)))
             return false;
+        part[p].length = 0;
     }
     return true;
 }

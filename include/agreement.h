@@ -37,12 +37,16 @@
  * A RESULT is n + 1 lines of the same form; its letters are capitals:
  *
  *   11 process end round value(4) data commits   for each process in order, 20 digits and 0A: end 01 decided, 02 crashed;
- *                                     the round in which it did; the value that it decided, 0 if it crashed; how many data
- *                                     frames and commits it sent, at most n - process each. One that crashed has them too
+ *                                     the round in which it did; the value that it decided, 0 if it crashed; how many of its
+ *                                     data frames and commits the switch carried, at most n - process each. One that crashed
+ *                                     has them too
  *   12 rounds f speakers data(2) commits(2)   the last line, 16 digits and 0A: the run's rounds; how many crashed
- *                                     undecided; how many coordinators began their own round up and undecided; frames sent
- *                                     in all, the sums of those above. Frames to crashed and
- *                                     decided processes count
+ *                                     undecided; how many coordinators began their own round up and undecided; frames
+ *                                     carried in all, the sums of those above. Commits are at most n - speakers
+ *
+ * A frame is carried, and so counted, if its addressee was up and undecided when the round began, even if it crashes in that
+ * round. The switch drops frames to processes that had crashed or decided. They are sent all the same: who is sent a commit
+ * after how many others goes by the list of all processes, and so does a failure line's count.
  *
  *   ticket      010402                        four processes, at most two crash
  *               02010000000A                  process 1 proposes 0000000A, and so on
@@ -51,11 +55,11 @@
  *               020400000028
  *               03010102000000000000000001    process 1 crashes in round 1 while sending commits, after one of them
  *               04
- *   result      11010201000000000301          process 1 crashed in round 1; it had sent 3 data frames and 1 commit
- *               110201020000000A0202          process 2 decided 0000000A in round 2, and sent 2 and 2
+ *   result      11010201000000000301          process 1 crashed in round 1; 3 data frames and 1 commit of it were carried
+ *               110201020000000A0101          process 2 decided 0000000A in round 2; 1 and 1 to process 3, those to 4 dropped
  *               110301020000000A0000
  *               110401010000000A0000          process 4 had the one commit, and decided in round 1
- *               1202010200050003              2 rounds, f 1, 2 speakers, 5 data frames, 3 commits
+ *               1202010200040002              2 rounds, f 1, 2 speakers, 4 data frames, 2 commits
  *
  * The program `simulate` writes a refusal as one line, 1F number line(2), and uc_run answers it: see UC_REFUSALS.
  *
@@ -92,7 +96,7 @@
  *      A process that heard nothing closes on nothing. The coordinator hears nothing.
  *   7. A process begins round r + 1 only after every process that is up has closed round r.
  *   8. A decided part is not called, nor one whose rounds are over: its mark says so, and a call is refused with 11. It
- *      sends nothing more, and frames to it are dropped.
+ *      sends nothing more, and the switch drops frames to it, as it does those to one that has crashed.
  *   9. A process that stops, for whatever reason, stays out. One that a host cannot go on with counts as crashed: after a
  *      refusal 12 it must not be closed on nothing instead, and a state read back after a loss of power is not used.
  *
@@ -126,7 +130,7 @@ extern "C" {
 #endif
 
 /* The version of this header and of the library that is installed with it. */
-#define UC_VERSION "1.3"
+#define UC_VERSION "1.4"
 
 /* The most processes. */
 #define UC_MOST_PROCESSES 64
@@ -152,7 +156,7 @@ extern "C" {
 #define UC_END_DECIDED 1
 #define UC_END_CRASHED 2
 
-/* Of the ten bytes of a process's line, two digits each, the places of the process and of what it sent. uc_line_byte reads one. */
+/* Of the ten bytes of a process's line, two digits each, the places of the process and of what was carried of it. uc_line_byte reads one. */
 #define UC_PROCESS_LINE_PROCESS 1
 #define UC_PROCESS_LINE_DATA 8
 #define UC_PROCESS_LINE_COMMITS 9

@@ -15,7 +15,7 @@
 
 #include "agreement.h"
 
-enum { GUARD = 64, GUARD_BYTE = 0x5A, LONGEST = 8192, LENT_AT_MOST = 2 };
+enum { GUARD = 64, GUARD_BYTE = 0x5A, LONGEST = 16384, LENT_AT_MOST = 2 };
 
 struct lent {
     uint8_t block[GUARD + LONGEST + GUARD];

@@ -1,8 +1,9 @@
 """Tickets and results as tools/draw-run, tools/explain-run and tools/show-test look at them.
 
 What a ticket is answered is never worked out here: it is read off what `simulate` writes. What is worked out is how the
-run came there (who sent what to whom, who heard it, who held which value), from the ticket's failure lines and from the
-result, which says who had decided or crashed when; and `contradictions` says where the two do not add up. Of a refusal,
+run came there (who sent what to whom, what of it the switch carried, who heard it, who held which value), from the ticket's
+failure lines and from the result, which says who had decided or crashed when; and `contradictions` says where the two do not
+add up. The result counts what was carried: a frame to a process that was up and undecided when the round began. Of a refusal,
 `reasons` says which of the things that its text names is the case.
 """
 
@@ -148,7 +149,7 @@ class Process:
     end: int = 0
     round: int = 0  # of deciding or crashing
     value: int = 0  # decided
-    data: int = 0  # messages that it sent
+    data: int = 0  # messages of it that were carried
     commits: int = 0
 
     def begins(self, round_number):
@@ -175,6 +176,7 @@ class Message:
     kind: str
     sender: Process
     recipient: Process
+    carried: bool  # or else dropped by the switch
     heard: bool
 
 
@@ -188,6 +190,12 @@ class Round:
 
     def sent(self, kind):
         return [message for message in self.messages if message.kind == kind]
+
+    def carried(self, kind):
+        return [message for message in self.sent(kind) if message.carried]
+
+    def dropped(self, kind):
+        return [message for message in self.sent(kind) if not message.carried]
 
     def heard(self, kind):
         return {message.recipient.id for message in self.sent(kind) if message.heard}
@@ -277,7 +285,7 @@ def play(run):
         coordinator = run.processes[round_number - 1]
         value = held[coordinator.id]
         messages = [
-            Message(kind, coordinator, recipient, recipient.hears_in(round_number))
+            Message(kind, coordinator, recipient, recipient.begins(round_number), recipient.hears_in(round_number))
             for kind, those in zip((DATA, COMMIT), recipients(run, coordinator, round_number))
             for recipient in those
         ]
@@ -287,19 +295,26 @@ def play(run):
         run.rounds.append(Round(round_number, coordinator, value, messages, dict(held)))
 
 
-def contradictions(run):
-    """Where the run, as it was played, and the result do not add up."""
+def contradicting_counts(run):
+    """Where the frames that were carried and the result's counts of them do not add up."""
     wrong = []
-    data = sum(len(played.sent(DATA)) for played in run.rounds)
-    commits = sum(len(played.sent(COMMIT)) for played in run.rounds)
+    data = sum(len(played.carried(DATA)) for played in run.rounds)
+    commits = sum(len(played.carried(COMMIT)) for played in run.rounds)
     if (data, commits) != (run.data, run.commits):
-        wrong.append(f"{data} data and {commits} commits are sent, but the result counts {run.data} and {run.commits}")
-    sent = collections.Counter((message.sender.id, message.kind) for played in run.rounds for message in played.messages)
+        wrong.append(f"{data} data and {commits} commits are carried, but the result counts {run.data} and {run.commits}")
+    messages = [message for played in run.rounds for message in played.messages if message.carried]
+    carried = collections.Counter((message.sender.id, message.kind) for message in messages)
     for process in run.processes:
-        data, commits = sent[process.id, DATA], sent[process.id, COMMIT]
+        data, commits = carried[process.id, DATA], carried[process.id, COMMIT]
         if (data, commits) != (process.data, process.commits):
             said = f"its line counts {process.data} and {process.commits}"
-            wrong.append(f"process {process.id} sends {data} data and {commits} commits, but {said}")
+            wrong.append(f"{data} data and {commits} commits of process {process.id} are carried, but {said}")
+    return wrong
+
+
+def contradictions(run):
+    """Where the run, as it was played, and the result do not add up."""
+    wrong = contradicting_counts(run)
     speakers = sum(not played.silent for played in run.rounds)
     if speakers != run.speakers:
         wrong.append(f"{speakers} coordinators speak, but the result counts {run.speakers}")
@@ -464,11 +479,27 @@ def names(processes):
     return ("process " if len(ids) == 1 else "processes ") + ", ".join(parts)
 
 
-def sent_text(process):
-    """What a process sent; nothing if it sent nothing."""
-    if not process.data and not process.commits:
+def carried_text(run, process):
+    """What was carried of a process's frames, and what was dropped; nothing if it sent nothing."""
+    messages = [message for played in run.rounds for message in played.messages if message.sender is process]
+    dropped = sum(not message.carried for message in messages)
+    if not messages and not process.data and not process.commits:
         return ""
-    return f"sent {counted(process.data, 'data frame')}, {counted(process.commits, 'commit')}"
+    carried = f"{counted(process.data, 'data frame')}, {counted(process.commits, 'commit')} carried"
+    return carried + (f", {counted(dropped, 'frame')} dropped" if dropped else "")
+
+
+def dropped_text(played):
+    """What the switch dropped in a round, and why; nothing if it dropped nothing."""
+    data, commits = ([message.recipient for message in played.dropped(kind)] for kind in (DATA, COMMIT))
+    if not data:  # no commit is sent where no data are
+        return ""
+    what = f"data to {names(data)}" + (f" and commits to {names(commits)}" if commits else "")
+    if {process.id for process in data} == {process.id for process in commits}:
+        what = f"data and commits to {names(data)}"
+    ended = ((fate, [process for process in data if process.end == end]) for end, fate in ((DECIDED, "decided"), (CRASHED, "crashed")))
+    why = [names(those) + f" {'has' if len(those) == 1 else 'have'} {fate}" for fate, those in ended if those]
+    return f"{what} ({', '.join(why)})"
 
 
 def failure_text(run, process):

@@ -1,10 +1,14 @@
 """The vectors of tests/vectors/: a file for the base version and one for each paper, with a JSON object on each line.
 
 A text stands in a field by itself or, in a field whose name ends in _hex, in hexadecimal digits; base.jsonl has its tickets in
-digits under the plain name. A `result` is what is written when the papers up to the file's have landed; 15 of base.jsonl, whose
-tickets have small letters, are what is written since Paper 1. Those of base.jsonl and
-paper-01.jsonl are without Paper 2: what is written now, with the two bytes that it adds struck out of each line 11 (`as_stored`), and
-where the room for it matters, an output that is longer by as much (`output`). `result_when_all_have_landed` is for later.
+digits under the plain name.
+
+Which field is what is written now: in the papers' files `result_when_all_have_landed`, since no paper after the fourth changes what
+is written for a coordinator ticket; for a flood ticket, which begins 05 or 06 and is refused until Paper 5 lands, `result`. (`result`
+is what was written when the papers up to the file's had landed. In paper-04.jsonl the two are the same but for the flood ticket.)
+base.jsonl has `result` alone, without Papers 2 and 4; 15 of its tickets have small letters, and are answered as since Paper 1. It is
+compared without any count: what is written now with the two bytes that Paper 2 adds struck out of each line 11, and both without the
+two counts of line 12 (`compared`, `as_compared`); and where the room matters, the output is longer by what Paper 2 adds (`output`).
 """
 
 from __future__ import annotations
@@ -15,11 +19,13 @@ from dataclasses import dataclass
 
 FOLDER = os.path.join(os.path.dirname(os.path.dirname(os.path.abspath(__file__))), "tests", "vectors")
 BASE, DESK = "base", "desk"
-PAPERS = ["paper-01", "paper-02", "paper-03"]  # whose vectors are of running a ticket
+PAPERS = ["paper-01", "paper-02", "paper-03", "paper-04"]  # whose vectors are of running a ticket
 TICKET_FILES = [BASE, *PAPERS]
-WITHOUT_COUNTS = [BASE, "paper-01"]  # whose results are without Paper 2
+FLOOD = (b"05", b"06")  # how a ticket begins that is refused until Paper 5 lands
 COUNTS = 4  # digits at the end of a process's line, two for each count (Paper 2)
 PROCESS_LINE = 20  # digits of it in all
+LAST_COUNTS = 8  # digits at the end of the last line, four for each count
+LAST_LINE = 16  # digits of it in all
 TOO_SHORT = 9  # the refusal of an output
 
 
@@ -40,6 +46,7 @@ class Ticket:
     about: str
     texts: list  # the ticket's bytes, and where it has letters often the same ticket in other letters
     result: str
+    before: str  # what was written when the papers up to the file's had landed
     room: int | None  # of the output; ample if it is not said
     settling_rounds: list | None  # that qualify, where the file says it
     entry: Entry | None  # of the byte that stands in the ticket for two digits, in the file of Paper 3
@@ -52,14 +59,25 @@ class Ticket:
     def struck_out(self):
         """Of how many lines 11 the counts are to be struck out: of all, one for each process, where the file's results have none."""
         read = self.refusal is None or self.refusal[0] == TOO_SHORT
-        return int(self.texts[0][2:4], 16) if read and self.file in WITHOUT_COUNTS else 0
+        return int(self.texts[0][2:4], 16) if read and self.file == BASE else 0
 
     def output(self, ample):
         """How many bytes the output has into which the ticket is run now; `ample` if the vector does not say."""
         return ample if self.room is None else self.room + COUNTS * self.struck_out
 
-    def as_stored(self, written):
-        """What is written now, as bytes, in the form that the file has; none if a process's line is not of today's length."""
+    @property
+    def left_out(self):
+        """How many bytes of what is written now are left out where it is compared."""
+        return COUNTS * self.struck_out + LAST_COUNTS if self.struck_out and not self.refusal else 0
+
+    @property
+    def compared(self):
+        """The result, as bytes, in the form in which it is compared: without the counts of its last line, if they are those of before."""
+        result = self.result.encode("ascii")
+        return result[: -LAST_COUNTS - 1] + b"\n" if self.left_out else result
+
+    def as_compared(self, written):
+        """What is written now, as bytes, in that form; none if a line is not of today's length."""
         return without_counts(written) if self.struck_out else written
 
     @property
@@ -69,11 +87,15 @@ class Ticket:
 
 
 def without_counts(result):
-    """A result without the counts of each process; none if a process's line is not of today's length."""
-    lines = result.split(b"\n")
-    if any(line.startswith(b"11") and len(line) != PROCESS_LINE for line in lines):
-        return None
-    return b"\n".join(line[:-COUNTS] if line.startswith(b"11") else line for line in lines)
+    """A result without the counts of each process and of the last line; none if a line is not of today's length."""
+    counts = {b"11": (PROCESS_LINE, COUNTS), b"12": (LAST_LINE, LAST_COUNTS)}
+    left = []
+    for line in result.split(b"\n"):
+        length, counted = counts.get(line[:2], (len(line), 0))
+        if len(line) != length:
+            return None
+        left.append(line[: length - counted])
+    return b"\n".join(left)
 
 
 def objects(file):
@@ -96,6 +118,12 @@ def texts_of(file, vector):
     return [ticket] if other in (None, ticket) else [ticket, other]
 
 
+def result_of(vector, ticket):
+    """What is written now for a ticket, in the form of its file."""
+    landed = vector.get("result_when_all_have_landed")
+    return vector["result"] if landed is None or ticket.startswith(FLOOD) else landed
+
+
 def tickets(*files):
     """The tickets of these files; of all that have some, if none is named."""
     return [
@@ -103,7 +131,8 @@ def tickets(*files):
             file,
             number,
             vector["about"],
-            texts_of(file, vector),
+            texts,
+            result_of(vector, texts[0]),
             vector["result"],
             vector.get("room"),
             vector.get("settling_rounds_that_qualify"),
@@ -111,6 +140,7 @@ def tickets(*files):
         )
         for file in files or TICKET_FILES
         for number, vector in objects(file)
+        for texts in [texts_of(file, vector)]
     ]
 
 

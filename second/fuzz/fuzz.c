@@ -5,8 +5,9 @@
  * needs no second implementation: answers in the documented ranges, equal
  * answers to equal calls, refused calls that change nothing, bytes behind
  * those written left alone, of every result that the processes agree (document
- * 01, and demand 3), that it has no small letter, and that the counts of its
- * processes are possible and add up (document 02, Paper 2), and that
+ * 01, and demand 3), that it has no small letter, that the counts of its
+ * processes are possible by its own ends and add up, and that they are within
+ * the bounds by speakers (document 02, Papers 2 and 4), and that
  * a ticket in other letters is answered alike and leaves the same bytes (Paper
  * 1); and then that the second implementation answers alike and leaves the same
  * bytes.
@@ -172,20 +173,49 @@ static void check_refusal(uint64_t answer, Input ticket, uint64_t last_number) {
     if (number == 4) CHECK(line == 1);
 }
 
+/* The line of a process, from 1 on, in a result. */
+static const uint8_t *line_of(const uint8_t *result, uint32_t process) {
+    return result + PROCESS_LINE * (process - 1);
+}
+
 /* The counts in a process's line: it sends in its own round alone, if it gets
- * there, and commits after all data; if it decides there, then all of both. */
-static void check_counts(const uint8_t *line, uint32_t process, uint32_t n) {
+ * there, and only what goes to processes above it that end in that round or
+ * later is carried; commits are sent after all data; if it decides there, then
+ * all of both are sent. */
+static void check_counts(const uint8_t *result, uint32_t process, uint32_t n) {
+    const uint8_t *line = line_of(result, process);
     uint32_t data = number_in(line, 8, 1), commits = number_in(line, 9, 1);
     uint32_t end = number_in(line, 2, 1), round = number_in(line, 3, 1);
-    CHECK(data <= n - process && commits <= n - process);
-    if (commits > 0) CHECK(data == n - process);
+    uint32_t up = 0;
+    for (uint32_t to = process + 1; to <= n; to++) {
+        up += number_in(line_of(result, to), 3, 1) >= process;
+    }
+    CHECK(data <= up && commits <= data);
+    if (commits > 0) CHECK(data == up);
     if (round != process) CHECK(data == 0);
-    if (round == process && end == 1) CHECK(data == n - process && commits == n - process);
+    if (round == process && end == 1) CHECK(data == up && commits == up);
+}
+
+/* The counts of a result: those of each process, their sums in the last line,
+ * the bound on messages by speakers, and that on commits. */
+static void check_all_counts(const uint8_t *result, uint32_t n) {
+    const uint8_t *last = result + PROCESS_LINE * n;
+    uint32_t k = number_in(last, 3, 1);
+    uint32_t data = number_in(last, 4, 2), commits = number_in(last, 6, 2);
+    uint32_t data_by_all = 0, commits_by_all = 0;
+    for (uint32_t process = 1; process <= n; process++) {
+        check_counts(result, process, n);
+        data_by_all += number_in(line_of(result, process), 8, 1);
+        commits_by_all += number_in(line_of(result, process), 9, 1);
+    }
+    CHECK(data_by_all == data && commits_by_all == commits);
+    CHECK(data + commits + k * (k - 1) / 2 <= k * (2 * n - k - 1));
+    CHECK(commits + k <= n);
 }
 
 /* A result by itself: its form and letters, agreement, validity, f + 1 rounds,
- * the counts of each process and their sums, and the bound on messages. An
- * accepted ticket has no blanks, so the proposals stand at fixed places in it. */
+ * and its counts. An accepted ticket has no blanks, so the proposals stand at
+ * fixed places in it. */
 static void check_result(const uint8_t *result, uint64_t length, Input ticket) {
     uint32_t n = number_in(ticket.bytes, 1, 1), t = number_in(ticket.bytes, 2, 1);
     const uint8_t *proposals = ticket.bytes + 7;
@@ -194,11 +224,9 @@ static void check_result(const uint8_t *result, uint64_t length, Input ticket) {
     const uint8_t *last = result + PROCESS_LINE * n;
     uint32_t rounds = number_in(last, 1, 1), f = number_in(last, 2, 1);
     uint32_t k = number_in(last, 3, 1);
-    uint32_t data = number_in(last, 4, 2), commits = number_in(last, 6, 2);
     uint32_t decided = 0, crashed = 0, latest = 0, value = 0, proposed = 0;
-    uint32_t data_by_all = 0, commits_by_all = 0;
     for (uint32_t process = 1; process <= n; process++) {
-        const uint8_t *line = result + PROCESS_LINE * (process - 1);
+        const uint8_t *line = line_of(result, process);
         uint32_t end = number_in(line, 2, 1), round = number_in(line, 3, 1);
         CHECK(line[PROCESS_LINE - 1] == '\n');
         CHECK(number_in(line, 0, 1) == 0x11 && number_in(line, 1, 1) == process);
@@ -213,17 +241,13 @@ static void check_result(const uint8_t *result, uint64_t length, Input ticket) {
             CHECK(end == 2 && number_in(line, 4, 4) == 0);
             crashed++;
         }
-        check_counts(line, process, n);
-        data_by_all += number_in(line, 8, 1);
-        commits_by_all += number_in(line, 9, 1);
     }
-    CHECK(data_by_all == data && commits_by_all == commits);
     for (uint32_t at = 0; at < n; at++) proposed += number_in(proposals + 13 * at, 2, 4) == value;
     CHECK(proposed > 0 && decided > 0);
     CHECK(last[LAST_LINE - 1] == '\n' && number_in(last, 0, 1) == 0x12);
     CHECK(crashed == f && f <= t && latest == rounds && rounds <= f + 1);
     CHECK(1 <= k && k <= f + 1 && k <= rounds);
-    CHECK(data + commits + k * (k - 1) / 2 <= k * (2 * n - k - 1));
+    check_all_counts(result, n);
 }
 
 /* The ticket's result with room for any, or its refusal. */

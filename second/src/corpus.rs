@@ -1,6 +1,6 @@
 //! A fixed corpus of tickets: what the papers name, each size, each step, each
 //! refusal at its first, a middle and its last possible line, letters of either
-//! case and what is no digit, and random ones.
+//! case and what is no digit, messages that are dropped, and random ones.
 
 use std::collections::HashSet;
 
@@ -11,8 +11,9 @@ use crate::ticket::{processes_above, Failure, Ticket, LONGEST_TICKET, MOST_PROCE
 use crate::worked;
 
 /// How many tickets the stored corpus of `replay` has: the 600 from before
-/// Paper 2, and seven with outputs around the lengths of then.
-pub const STORED: usize = 607;
+/// Paper 2, seven with outputs around the lengths of then, and the twenty of Paper
+/// 4.
+pub const STORED: usize = 627;
 
 /// The longest text of a corpus, and the most that `replay` takes.
 pub const LONGEST_TEXT: usize = 4200;
@@ -69,6 +70,7 @@ fn systematic(rng: &mut Rng) -> Vec<Entry> {
     entries.extend(refused_in_other_letters());
     entries.extend(wrong_bytes());
     entries.extend(each_room());
+    entries.extend(addressees());
     entries
 }
 
@@ -432,10 +434,59 @@ fn each_room() -> Vec<Entry> {
     entries
 }
 
+/// What process 2 of five sends while the last two have crashed, crash in this
+/// very round, have decided, or one has crashed and one has decided; it does not
+/// crash, or does in each way. Then larger ones, and each kind at once (02, Paper
+/// 4).
+fn addressees() -> Vec<Entry> {
+    let silent = Failure::before_sending;
+    let fates = [
+        (silent(1, 1), vec![silent(4, 1), silent(5, 1)]),
+        (Failure::sending_commits(1, 0), vec![silent(4, 2), silent(5, 2)]),
+        (Failure::sending_commits(1, 2), vec![]),
+        (Failure::sending_commits(1, 1), vec![silent(4, 1)]),
+    ];
+    let crashes = [
+        None,
+        Some(Failure::sending_data(2, 0b1_0100)),
+        Some(Failure::sending_commits(2, 1)),
+        Some(Failure::sending_commits(2, 3)),
+    ];
+    let mut tickets = Vec::new();
+    for (first, last_two) in &fates {
+        for crash in crashes {
+            let failures = [*first].into_iter().chain(crash).chain(last_two.iter().copied());
+            tickets.push(plain(5, 4, failures.collect()));
+        }
+    }
+    tickets.extend(many_addressees());
+    tickets.extend(worked::runs().into_iter().last().map(|(_, ticket)| ticket));
+    tickets.iter().map(|ticket| Entry::ample(ticket.text())).collect()
+}
+
+/// Of 64 processes: all but the first crash in its round; half of them do, and the
+/// others one after the other; many decide in round 1, crash in it or in the next.
+fn many_addressees() -> [Ticket; 3] {
+    let most = MOST_PROCESSES;
+    let silent_in = |round| move |process| Failure::before_sending(process, round);
+    let sending = |commits| move |process| Failure::sending_commits(process, commits);
+    let halves = (1..=31).map(sending(0)).chain((33..=most).map(silent_in(1)));
+    let thirds = (1..=20).map(sending(30)).chain((21..=40).map(silent_in(2)));
+    let thirds = thirds.chain((41..=60).map(silent_in(1)));
+    [
+        plain(most, most - 1, (2..=most).map(silent_in(1)).collect()),
+        plain(most, most - 1, halves.collect()),
+        plain(most, most - 1, thirds.collect()),
+    ]
+}
+
 #[cfg(test)]
 mod tests {
     use super::*;
+    use crate::process::{Process, Status};
+    use crate::recount::{counted, end_round};
     use crate::refusal::{Reason, Refusal};
+    use crate::simulation::Simulation;
     use crate::Simulator;
     use std::collections::BTreeSet;
 
@@ -534,6 +585,43 @@ mod tests {
                 assert_eq!(answered(n, room), Ok(exact), "{n} {room}");
             }
         }
+    }
+
+    /// Whether data, and whether commits, go to processes that have crashed, have
+    /// decided, and crash in the round.
+    fn addressed(ticket: &Ticket) -> [[bool; 2]; 3] {
+        let mut simulation = Simulation::new(ticket);
+        simulation.run(|_, _| {});
+        let ends: Vec<Status> = simulation.processes().iter().map(Process::status).collect();
+        let is_crashed = |end| matches!(end, Status::Crashed(_));
+        let mut addressed = [[false; 2]; 3];
+        for id in 1..=ticket.n {
+            let kinds = [
+                counted(ticket, &ends, id, |end| end_round(end) < id && is_crashed(end)),
+                counted(ticket, &ends, id, |end| end_round(end) < id && !is_crashed(end)),
+                counted(ticket, &ends, id, |end| end_round(end) == id && is_crashed(end)),
+            ];
+            for (addressed, count) in addressed.iter_mut().zip(kinds) {
+                addressed[0] |= count.data > 0;
+                addressed[1] |= count.commits > 0;
+            }
+        }
+        addressed
+    }
+
+    #[test]
+    fn messages_go_to_each_kind_of_addressee_alone_and_to_all() {
+        let (entries, corpus) = (addressees(), corpus(1, STORED));
+        assert!(entries.len() == 20 && entries.iter().all(|entry| corpus.contains(entry)));
+        let tickets = entries.iter().map(|entry| Ticket::parse(&entry.text).expect("accepted"));
+        let shown: Vec<_> = tickets.map(|ticket| addressed(&ticket)).collect();
+        let (neither, data, both) = ([false, false], [true, false], [true, true]);
+        for kind in 0..3 {
+            let mut alone = [neither; 3];
+            alone[kind] = both;
+            assert!(shown.contains(&alone), "{alone:?}");
+        }
+        assert!(shown.contains(&[both, both, data]) && shown.contains(&[both; 3]));
     }
 
     #[test]

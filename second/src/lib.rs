@@ -1,5 +1,5 @@
 //! A second implementation of document 01's base version and of document 02's
-//! Papers 1 to 3, written from the papers alone and in a shape of its own: a run
+//! Papers 1 to 4, written from the papers alone and in a shape of its own: a run
 //! is simulated message by message, with a mailbox for each process and a switch
 //! in between.
 //!
@@ -7,8 +7,9 @@
 //! |---|---|
 //! | "The ticket", refusals 1 to 8 | [`lines`], [`ticket`] |
 //! | 02, Paper 1: letters of either case | [`lines`] |
-//! | 02, Paper 2: what each process has sent | [`process::Sent`], [`report`] |
+//! | 02, Paper 2: the messages of each process | [`process::Carried`], [`report`] |
 //! | 02, Paper 3: what each byte is as a digit, by a rule | [`lines`] |
+//! | 02, Paper 4: which messages are dropped, and so not counted | [`switch::Switch`] |
 //! | "A round" | [`process`], [`switch`], [`simulation`] |
 //! | "The result", refusal 9, settling | [`Simulator`], [`report`] |
 //! | "The desk part", refusals 9 to 12 | [`local`] |
@@ -19,8 +20,8 @@
 //! The paper's stations, desks and frames are processes and messages here, and
 //! a process that goes dark has crashed, as in document 001.
 //! [`generate`], [`patterns`] and [`corpus`] make tickets to try implementations
-//! on, and [`interface`] is what the implementations have in common. [`worlds`]
-//! changes the rules one at a time and shows which claims fail then.
+//! on, [`recount`] counts in another way, and [`interface`] is what the
+//! implementations have in common. [`worlds`] changes the rules one at a time and shows which claims fail then.
 
 #![forbid(unsafe_code)]
 #![warn(missing_docs)]
@@ -32,6 +33,7 @@ pub mod lines;
 pub mod local;
 pub mod patterns;
 pub mod process;
+pub mod recount;
 pub mod refusal;
 pub mod report;
 pub mod rng;

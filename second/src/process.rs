@@ -23,16 +23,16 @@ pub enum Status {
     Crashed(u8),
 }
 
-/// How many messages have left a process (02, Paper 2).
+/// How many messages of a process the switch has carried (02, Papers 2 and 4).
 #[derive(Clone, Copy, Debug, Default, PartialEq, Eq)]
-pub struct Sent {
-    /// Data messages, also those to crashed and decided processes.
+pub struct Carried {
+    /// Data messages.
     pub data: u8,
-    /// Commits, counted alike.
+    /// Commits.
     pub commits: u8,
 }
 
-impl Sent {
+impl Carried {
     /// Counts one more.
     pub fn count(&mut self, message: Message) {
         match message {
@@ -49,7 +49,7 @@ pub struct Process {
     estimate: u32,
     status: Status,
     failure: Option<Failure>,
-    sent: Sent,
+    carried: Carried,
     mailbox: Vec<Message>,
 }
 
@@ -61,7 +61,7 @@ impl Process {
             estimate: proposal,
             status: Status::Active,
             failure: None,
-            sent: Sent::default(),
+            carried: Carried::default(),
             mailbox: Vec::with_capacity(2),
         }
     }
@@ -71,7 +71,7 @@ impl Process {
         self.estimate = proposal;
         self.status = Status::Active;
         self.failure = None;
-        self.sent = Sent::default();
+        self.carried = Carried::default();
         self.mailbox.clear();
     }
 
@@ -95,9 +95,9 @@ impl Process {
         self.status
     }
 
-    /// What it has sent.
-    pub fn sent(&self) -> Sent {
-        self.sent
+    /// The messages that it was charged for.
+    pub fn carried(&self) -> Carried {
+        self.carried
     }
 
     /// Whether it is up and undecided.
@@ -128,9 +128,9 @@ impl Process {
         data_step.chain(commit_step)
     }
 
-    /// Charges a message that goes out to this process.
+    /// Charges this process, which has sent it, for a message that was carried.
     pub fn charge(&mut self, message: Message) {
-        self.sent.count(message);
+        self.carried.count(message);
     }
 
     /// Puts a message of `round` into the mailbox, if the process hears in it.
@@ -185,14 +185,14 @@ mod tests {
     }
 
     #[test]
-    fn what_is_sent_is_charged_by_its_kind() {
+    fn what_is_carried_is_charged_by_its_kind() {
         let mut process = Process::new(1, 7);
         for (_, message) in process.messages(64).take(63 + 2) {
             process.charge(message);
         }
-        assert_eq!(process.sent(), Sent { data: 63, commits: 2 });
+        assert_eq!(process.carried(), Carried { data: 63, commits: 2 });
         process.restart(8);
-        assert_eq!(process.sent(), Sent::default());
+        assert_eq!(process.carried(), Carried::default());
     }
 
     #[test]

@@ -1,6 +1,6 @@
-//! The result's text (01, "The result"; 02, Paper 2).
+//! The result's text (01, "The result"; 02, Papers 2 and 4).
 
-use crate::process::{Process, Sent, Status};
+use crate::process::{Carried, Process, Status};
 use crate::simulation::Totals;
 use crate::ticket::MOST_PROCESSES;
 
@@ -24,21 +24,21 @@ pub fn write_result(processes: &[Process], totals: &Totals, output: &mut [u8]) {
     let (lines, rest) = output.split_at_mut(PROCESS_LINE_LENGTH * processes.len());
     for (process, line) in processes.iter().zip(lines.chunks_exact_mut(PROCESS_LINE_LENGTH)) {
         let (status, estimate) = (process.status(), process.estimate());
-        write_line(&process_line(process.id(), status, estimate, process.sent()), line);
+        write_line(&process_line(process.id(), status, estimate, process.carried()), line);
     }
     write_line(&totals_line(totals), &mut rest[..LAST_LINE_LENGTH]);
 }
 
 /// The bytes of a process's line. No process is active when a run ends; the
 /// line of one that is has an end of its own, 00.
-pub fn process_line(id: u8, status: Status, estimate: u32, sent: Sent) -> [u8; 10] {
+pub fn process_line(id: u8, status: Status, estimate: u32, carried: Carried) -> [u8; 10] {
     let (end, round, value) = match status {
         Status::Active => (0x00, 0, estimate),
         Status::Decided(round) => (0x01, round, estimate),
         Status::Crashed(round) => (0x02, round, 0),
     };
     let [a, b, c, d] = value.to_be_bytes();
-    [0x11, id, end, round, a, b, c, d, sent.data, sent.commits]
+    [0x11, id, end, round, a, b, c, d, carried.data, carried.commits]
 }
 
 fn totals_line(totals: &Totals) -> [u8; 8] {
@@ -79,14 +79,14 @@ mod tests {
 
     #[test]
     fn the_counts_stand_behind_the_value() {
-        let line = |status, sent| {
+        let line = |status, carried| {
             let mut line = [0; PROCESS_LINE_LENGTH];
-            write_line(&process_line(1, status, 10, sent), &mut line);
+            write_line(&process_line(1, status, 10, carried), &mut line);
             line
         };
-        let sent = Sent { data: 3, commits: 1 };
-        assert_eq!(&line(Status::Crashed(1), sent), b"11010201000000000301\n");
-        let most = Sent { data: 63, commits: 63 };
+        let some = Carried { data: 3, commits: 1 };
+        assert_eq!(&line(Status::Crashed(1), some), b"11010201000000000301\n");
+        let most = Carried { data: 63, commits: 63 };
         assert_eq!(&line(Status::Decided(1), most), b"110101010000000A3F3F\n");
     }
 }

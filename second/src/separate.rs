@@ -1,9 +1,10 @@
-//! A ticket run by separate local parts, one state for each process, over a
-//! switch that drops exactly what the ticket says (demand 2, second half).
+//! A ticket run by separate local parts, one state for each process, over lines
+//! that let out exactly what the ticket says (demand 2, second half) and a switch
+//! that drops what goes to a process that has crashed or decided (02, Paper 4).
 
 use crate::interface::Agreement;
 use crate::local::{SPEECH_LENGTH, STATE_LENGTH};
-use crate::process::{Message, Sent, Status};
+use crate::process::{Carried, Message, Status};
 use crate::switch::{Fate, Uplink};
 use crate::ticket::{Failure, Ticket};
 
@@ -11,15 +12,15 @@ use crate::ticket::{Failure, Ticket};
 /// commit.
 const DATA_LENGTH: usize = 6;
 
-/// How a process ends, and what of its own went out.
+/// How a process ends, and what of its own was carried.
 #[derive(Clone, Copy, Debug, PartialEq, Eq)]
 pub struct End {
     /// What has become of it.
     pub status: Status,
     /// The value that it decides; 0 if it crashes.
     pub value: u32,
-    /// The messages that left it, also those to crashed and decided processes.
-    pub sent: Sent,
+    /// The messages that left it and were carried.
+    pub carried: Carried,
 }
 
 /// One process: its state, and what it has heard in this round.
@@ -29,7 +30,7 @@ struct Local {
     state: [u8; STATE_LENGTH],
     failure: Option<Failure>,
     crashed: Option<u8>,
-    sent: Sent,
+    carried: Carried,
     heard: Vec<u8>,
 }
 
@@ -61,13 +62,13 @@ impl Local {
             (None, 1) => (Status::Decided(self.round()), self.value()),
             (None, _) => (Status::Active, self.value()),
         };
-        End { status, value, sent: self.sent }
+        End { status, value, carried: self.carried }
     }
 }
 
-/// What becomes of each process, with the value it decides and what it sends,
-/// if `module` is asked for each of them in each round. An error says which call
-/// was refused.
+/// What becomes of each process, with the value it decides and what was carried
+/// of its messages, if `module` is asked for each of them in each round. An error
+/// says which call was refused.
 pub fn run_separately(module: &mut impl Agreement, ticket: &Ticket) -> Result<Vec<End>, String> {
     let mut locals = start_all(module, ticket)?;
     for round in 1..=ticket.t + 1 {
@@ -98,14 +99,16 @@ fn start_all(module: &mut impl Agreement, ticket: &Ticket) -> Result<Vec<Local>,
             state,
             failure: failure.copied(),
             crashed: None,
-            sent: Sent::default(),
+            carried: Carried::default(),
             heard: Vec::with_capacity(SPEECH_LENGTH),
         });
     }
     Ok(locals)
 }
 
-/// Asks one process to speak, and passes on what its crash lets out.
+/// Asks one process to speak, and passes on what its crash lets out and the switch
+/// does not drop. None closes while one speaks, so a process is here what it was
+/// when the round began.
 fn speak(
     module: &mut impl Agreement,
     locals: &mut [Local],
@@ -127,11 +130,11 @@ fn speak(
     let commit_step = recipients.rev().map(|to| (to, Message::Commit, commit));
     for (to, message, bytes) in data_step.chain(commit_step) {
         match uplink.fate(locals[to].id, message) {
-            Fate::Sent => {
-                locals[sender].sent.count(message);
+            Fate::Sent if locals[to].is_active() => {
+                locals[sender].carried.count(message);
                 locals[to].heard.extend_from_slice(bytes);
             }
-            Fate::Lost => {}
+            Fate::Sent | Fate::Lost => {}
             Fate::Crashed => break,
         }
     }

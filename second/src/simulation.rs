@@ -13,9 +13,9 @@ pub struct Totals {
     pub crashes: u8,
     /// Coordinators that began their own round active.
     pub speakers: u8,
-    /// Data messages sent.
+    /// Data messages carried.
     pub data: u16,
-    /// Commits sent.
+    /// Commits carried.
     pub commits: u16,
 }
 
@@ -83,9 +83,10 @@ impl Simulation {
         for (to, message) in coordinator.messages(n) {
             match uplink.fate(to, message) {
                 Fate::Sent => {
-                    coordinator.charge(message);
                     let recipient = &mut above[usize::from(to - round) - 1];
-                    self.switch.carry(round, message, recipient);
+                    if self.switch.carry(round, message, recipient) {
+                        coordinator.charge(message);
+                    }
                 }
                 Fate::Lost => {}
                 Fate::Crashed => break,

@@ -1,6 +1,6 @@
 //! Between a coordinator and the mailboxes: the line on which a crash cuts
-//! messages off, and the switch that counts and delivers the others
-//! (01, "A round", third paragraph).
+//! messages off, and the switch that drops or carries the others, counts what it
+//! carries and delivers it (01, "A round"; 02, Paper 4).
 
 use crate::process::{Message, Process};
 use crate::ticket::Crash;
@@ -55,29 +55,41 @@ impl Uplink {
     }
 }
 
-/// The switch, with its counts of messages sent.
+/// The switch, with its counts of the messages that it has carried.
 #[derive(Clone, Debug, Default)]
 pub struct Switch {
-    /// Data messages, also those to crashed and decided processes.
+    /// Data messages.
     pub data: u16,
-    /// Commits, counted alike.
+    /// Commits.
     pub commits: u16,
 }
 
 impl Switch {
-    /// Counts a message of `round` and delivers it to whoever hears it.
-    pub fn carry(&mut self, round: u8, message: Message, to: &mut Process) {
+    /// Drops a message to a process that has crashed or decided. Any other one of
+    /// `round` is counted, and delivered if the process hears in it. The answer
+    /// is whether it was carried.
+    ///
+    /// What a process is changes at the end of a round, so this is what it was
+    /// when the round began: one that crashes in the round is carried to, and
+    /// hears nothing.
+    pub fn carry(&mut self, round: u8, message: Message, to: &mut Process) -> bool {
+        if !to.is_active() {
+            return false;
+        }
         match message {
             Message::Data(_) => self.data += 1,
             Message::Commit => self.commits += 1,
         }
         to.hear(round, message);
+        true
     }
 }
 
 #[cfg(test)]
 mod tests {
     use super::*;
+    use crate::process::Status;
+    use crate::ticket::Failure;
 
     /// Processes of four that are sent data, and commits, by process 1.
     fn sent(crash: Option<Crash>) -> (Vec<u8>, Vec<u8>) {
@@ -106,5 +118,50 @@ mod tests {
             assert_eq!(data, all);
             assert_eq!(commits, [4, 3, 2][..usize::from(count)]);
         }
+    }
+
+    /// Process 3 after round 1, in which it hears `messages` or crashes.
+    fn after_round_1(messages: &[Message], failure: Option<Failure>) -> Process {
+        let mut process = Process::new(3, 30);
+        failure.into_iter().for_each(|failure| process.doom(failure));
+        messages.iter().for_each(|&message| process.hear(1, message));
+        process.end_round(1);
+        process
+    }
+
+    #[test]
+    fn what_goes_to_a_process_up_and_undecided_is_carried() {
+        let data = Message::Data(10);
+        let both = [data, Message::Commit];
+        let silent_in = |round| Some(Failure::before_sending(3, round));
+        let tried = [
+            (after_round_1(&[], None), true),
+            (after_round_1(&[data], None), true),
+            (after_round_1(&[], silent_in(3)), true),
+            (after_round_1(&[], silent_in(2)), true),
+            (after_round_1(&[], silent_in(1)), false),
+            (after_round_1(&both, None), false),
+            (after_round_1(&both, silent_in(2)), false),
+        ];
+        for (mut process, carried) in tried {
+            let mut switch = Switch::default();
+            let shown = format!("{process:?}");
+            assert_eq!(both.map(|message| switch.carry(2, message, &mut process)), [carried; 2]);
+            let counted = u16::from(carried);
+            assert_eq!((switch.data, switch.commits), (counted, counted), "{shown}");
+        }
+    }
+
+    #[test]
+    fn one_that_crashes_in_the_round_is_carried_to_and_hears_nothing() {
+        let mut switch = Switch::default();
+        let mut process = Process::new(3, 30);
+        process.doom(Failure::before_sending(3, 1));
+        assert!(switch.carry(1, Message::Data(10), &mut process));
+        assert!(switch.carry(1, Message::Commit, &mut process));
+        process.end_round(1);
+        assert_eq!((process.status(), process.estimate()), (Status::Crashed(1), 30));
+        assert!(!switch.carry(2, Message::Data(20), &mut process));
+        assert_eq!((switch.data, switch.commits), (1, 1));
     }
 }

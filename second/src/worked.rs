@@ -38,9 +38,9 @@ pub fn case(number: u8) -> Ticket {
     }
 }
 
-/// The runs worked out by hand: cases 1 to 9, and four that show what no case
+/// The runs worked out by hand: cases 1 to 9, and five that show what no case
 /// does. They are those of `../crates/coordinator/specs/WorkedTable.antt`.
-pub fn runs() -> [(&'static str, Ticket); 13] {
+pub fn runs() -> [(&'static str, Ticket); 14] {
     let silent = Failure::before_sending;
     let three = Ticket { n: 3, t: 2, proposals: vec![10, 20, 30], failures: vec![] };
     let three_crash = vec![Failure::sending_commits(1, 1), silent(2, 1), silent(3, 2)];
@@ -58,7 +58,21 @@ pub fn runs() -> [(&'static str, Ticket); 13] {
         ("silent at last", Ticket { t: 3, ..four(three_crash) }),
         ("no commit", four(vec![Failure::sending_commits(1, 0)])),
         ("two reached", four(vec![Failure::sending_data(1, 0b0110)])),
+        ("each kind of addressee", each_kind_of_addressee()),
     ]
+}
+
+/// In round 2 process 2 sends data to one that stays up, one that crashes in that
+/// round, one that has crashed and one that has decided (02, Paper 4); in round 3
+/// process 3 sends to none that is up and undecided.
+fn each_kind_of_addressee() -> Ticket {
+    let failures = vec![
+        Failure::sending_commits(1, 1),
+        Failure::sending_data(2, 0b11_1100),
+        Failure::before_sending(4, 2),
+        Failure::before_sending(5, 1),
+    ];
+    Ticket { n: 6, t: 4, proposals: vec![10, 20, 30, 40, 50, 60], failures }
 }
 
 #[cfg(test)]
@@ -99,8 +113,8 @@ mod tests {
     fn case_1_whole() {
         let ticket = "010402\n02010000000A\n020200000014\n02030000001E\n020400000028\n\
                       03010102000000000000000001\n04\n";
-        let result = "11010201000000000301\n110201020000000A0202\n110301020000000A0000\n\
-                      110401010000000A0000\n1202010200050003\n";
+        let result = "11010201000000000301\n110201020000000A0101\n110301020000000A0000\n\
+                      110401010000000A0000\n1202010200040002\n";
         assert_eq!(case(1).to_string(), ticket);
         assert_eq!(printed(1), result);
         let rounds = Simulator::new().settling_rounds(ticket.as_bytes());
@@ -147,41 +161,49 @@ mod tests {
     }
 
     #[test]
-    fn case_9_meets_the_bound_exactly() {
+    fn case_9_has_a_commit_for_each_process_that_does_not_speak() {
         let (ends, totals) = ends(9);
         assert_eq!(ends[9], decided(1, 10));
-        assert_eq!((totals.crashes, totals.speakers), (9, 7));
-        assert_eq!((totals.data, totals.commits), (42, 21));
-        let (n, k) = (10, 7);
-        assert_eq!(k * (2 * n - k - 1) - k * (k - 1) / 2, 42 + 21);
+        assert_eq!((totals.rounds, totals.crashes, totals.speakers), (7, 9, 7));
+        assert_eq!((totals.data, totals.commits), (24, 3));
+        assert_eq!(totals.commits, 10 - u16::from(totals.speakers));
+        assert!(printed(9).ends_with("1207090700180003\n"));
     }
 
     #[test]
-    fn what_each_process_of_cases_1_to_9_has_sent() {
-        let seven = [(9, 3), (8, 3), (7, 3), (6, 3), (5, 3), (4, 3), (3, 3)];
+    fn what_was_carried_of_each_process_of_cases_1_to_9() {
         let figures: [&[(u8, u8)]; 9] = [
-            &[(3, 1), (2, 2)],
+            &[(3, 1), (1, 1)],
             &[],
             &[(3, 3)],
             &[(1, 0), (2, 2)],
             &[(1, 0), (2, 2)],
             &[(0, 0), (0, 0), (1, 1)],
-            &[(3, 1), (2, 2)],
+            &[(3, 1), (1, 1)],
             &[(3, 3)],
-            &seven,
+            &[(9, 3), (5, 0), (4, 0), (3, 0), (2, 0), (1, 0)],
         ];
-        for (number, sent) in (1..).zip(figures) {
+        for (number, carried) in (1..).zip(figures) {
             let mut simulation = Simulation::new(&case(number));
             let totals = simulation.run(|_, _| {});
-            let mut sent = sent.to_vec();
-            sent.resize(simulation.processes().len(), (0, 0));
-            let counted = simulation.processes().iter().map(Process::sent);
-            let counted: Vec<_> = counted.map(|sent| (sent.data, sent.commits)).collect();
-            assert_eq!(counted, sent, "case {number}");
-            let data: u16 = sent.iter().map(|&(data, _)| u16::from(data)).sum();
-            let commits: u16 = sent.iter().map(|&(_, commits)| u16::from(commits)).sum();
+            let mut carried = carried.to_vec();
+            carried.resize(simulation.processes().len(), (0, 0));
+            let counted = simulation.processes().iter().map(Process::carried);
+            let counted: Vec<_> = counted.map(|count| (count.data, count.commits)).collect();
+            assert_eq!(counted, carried, "case {number}");
+            let data: u16 = carried.iter().map(|&(data, _)| u16::from(data)).sum();
+            let commits: u16 = carried.iter().map(|&(_, commits)| u16::from(commits)).sum();
             assert_eq!((data, commits), (totals.data, totals.commits), "case {number}");
         }
+    }
+
+    #[test]
+    fn each_kind_of_addressee_whole() {
+        let result = "11010201000000000501\n11020202000000000200\n110301030000000A0000\n\
+                      11040202000000000000\n11050201000000000000\n110601010000000A0000\n\
+                      1203040300070001\n";
+        let ticket = each_kind_of_addressee().text();
+        assert_eq!(Simulator::new().print(&ticket, 2000), result);
     }
 
     #[test]

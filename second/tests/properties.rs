@@ -1,8 +1,9 @@
-//! What demands 2 and 3, the paper's bound and Papers 1 and 2 of document 02
+//! What demands 2 and 3, the paper's bound and Papers 1, 2 and 4 of document 02
 //! claim of every run, tried on random tickets.
 
 use second::generate;
-use second::process::{Process, Sent, Status};
+use second::process::{Carried, Process, Status};
+use second::recount::{counted, end_round};
 use second::report::result_length;
 use second::rng::Rng;
 use second::separate::{run_separately, End};
@@ -71,53 +72,61 @@ fn more_commits_let_nobody_decide_later_or_otherwise() {
     }
 }
 
+/// Document 01's bound by speakers, and Paper 4's on commits, which is met by
+/// runs of one speaker and of several.
 #[test]
-fn messages_stay_within_the_papers_bound() {
+fn messages_stay_within_the_papers_bounds() {
+    let mut met = [0; 2];
     for (_, ticket) in random_tickets(3) {
         let (_, totals) = run(&ticket);
         let (n, k) = (u32::from(ticket.n), u32::from(totals.speakers));
-        let messages = u32::from(totals.data) + u32::from(totals.commits);
+        let [data, commits] = [totals.data, totals.commits].map(u32::from);
         assert!(k <= u32::from(totals.crashes) + 1, "{ticket}");
-        assert!(messages + k * (k - 1) / 2 <= k * (2 * n - k - 1), "{ticket}");
+        assert!(data + commits + k * (k - 1) / 2 <= k * (2 * n - k - 1), "{ticket}");
+        assert!(commits + k <= n, "{ticket}");
+        met[usize::from(k > 1)] += usize::from(commits > 0 && commits + k == n);
     }
+    assert!(met[0] > 500 && met[1] > 100, "{met:?}");
 }
 
-/// What each process has sent.
-fn sent(ticket: &Ticket) -> Vec<Sent> {
+/// What was carried of each process.
+fn carried(ticket: &Ticket) -> Vec<Carried> {
     let mut simulation = Simulation::new(ticket);
     simulation.run(|_, _| {});
-    simulation.processes().iter().map(Process::sent).collect()
+    simulation.processes().iter().map(Process::carried).collect()
 }
 
-/// By the numbers that document 01 counts a round's messages with; the
-/// simulation goes message by message.
+/// Read off the ticket and the ends: what document 01 counts of a process, all that
+/// it sends, less what goes to processes that crashed or decided in earlier rounds.
+/// A process that crashes in the round itself counts as an addressee.
 #[test]
-fn a_process_sends_what_its_own_round_lets_out() {
-    let (mut by_crashed, mut by_decided) = (0, 0);
+fn the_counts_are_those_before_paper_4_less_what_is_dropped() {
+    let mut tried = [[0; 2]; 3];
     for (_, ticket) in random_tickets(7) {
-        let (ends, _) = run(&ticket);
-        let line = |id| ticket.failures.iter().find(|failure| failure.process == id);
-        for (id, (sent, (status, _))) in (1..).zip(sent(&ticket).into_iter().zip(ends)) {
-            let above = ticket.n - id;
-            let (data, commits) = match status {
-                Status::Decided(round) if round == id => (above, above),
-                Status::Crashed(round) if round == id => match line(id).expect("a line").crash {
-                    Crash::BeforeSending => (0, 0),
-                    Crash::SendingData { reached } => (reached.count_ones() as u8, 0),
-                    Crash::SendingCommits { sent } => (above, sent),
-                },
-                _ => (0, 0),
+        let ends: Vec<Status> = run(&ticket).0.into_iter().map(|(status, _)| status).collect();
+        for (id, carried) in (1..).zip(carried(&ticket)) {
+            let sent_to = |whom: fn(Status, u8) -> bool| {
+                let count = counted(&ticket, &ends, id, |end| whom(end, id));
+                [count.data, count.commits]
             };
-            assert_eq!(sent, Sent { data, commits }, "process {id} of {ticket}");
-            let counted = if matches!(status, Status::Crashed(_)) {
-                &mut by_crashed
-            } else {
-                &mut by_decided
-            };
-            *counted += usize::from(data > 0);
+            let all = sent_to(|_, _| true);
+            let crashed = sent_to(|end, round| end_round(end) < round && is_crashed(end));
+            let decided = sent_to(|end, round| end_round(end) < round && !is_crashed(end));
+            let crashing = sent_to(|end, round| end_round(end) == round && is_crashed(end));
+            for (kind, carried) in [carried.data, carried.commits].into_iter().enumerate() {
+                let dropped = crashed[kind] + decided[kind];
+                assert_eq!(carried, all[kind] - dropped, "process {id} of {ticket}");
+            }
+            for (tried, count) in tried.iter_mut().zip([crashed, decided, crashing]) {
+                (0..2).for_each(|kind| tried[kind] += usize::from(count[kind] > 0));
+            }
         }
     }
-    assert!(by_crashed > 1000 && by_decided > 1000, "{by_crashed} {by_decided}");
+    assert!(tried.iter().flatten().all(|&count| count > 100), "{tried:?}");
+}
+
+fn is_crashed(end: Status) -> bool {
+    matches!(end, Status::Crashed(_))
 }
 
 /// The byte that two digits make.
@@ -126,7 +135,7 @@ fn byte_at(line: &str, place: usize) -> u8 {
 }
 
 #[test]
-fn the_bytes_that_are_written_add_up() {
+fn the_bytes_that_are_written_add_up_and_keep_the_bound_on_commits() {
     let mut simulator = Simulator::new();
     for (_, ticket) in random_tickets(8) {
         let printed = simulator.print(&ticket.text(), result_length(ticket.n));
@@ -134,11 +143,13 @@ fn the_bytes_that_are_written_add_up() {
         let (last, processes) = lines.split_last().expect("a result");
         assert_eq!(processes.len(), usize::from(ticket.n), "{ticket}");
         assert!(processes.iter().all(|line| line.len() == 20) && last.len() == 16, "{ticket}");
-        for (place, in_all) in [(8, 4), (9, 6)] {
+        let [data, commits] = [4, 6]
+            .map(|place| u16::from_be_bytes([byte_at(last, place), byte_at(last, place + 1)]));
+        for (place, in_all) in [(8, data), (9, commits)] {
             let sum: u16 = processes.iter().map(|line| u16::from(byte_at(line, place))).sum();
-            let in_all = u16::from_be_bytes([byte_at(last, in_all), byte_at(last, in_all + 1)]);
             assert_eq!(sum, in_all, "{ticket}");
         }
+        assert!(commits + u16::from(byte_at(last, 3)) <= u16::from(ticket.n), "{ticket}");
     }
 }
 
@@ -189,8 +200,8 @@ fn separate_local_parts_decide_alike() {
     let mut simulator = Simulator::new();
     for (_, ticket) in random_tickets(4) {
         let separate = run_separately(&mut simulator, &ticket);
-        let ends = run(&ticket).0.into_iter().zip(sent(&ticket));
-        let ends = ends.map(|((status, value), sent)| End { status, value, sent });
+        let ends = run(&ticket).0.into_iter().zip(carried(&ticket));
+        let ends = ends.map(|((status, value), carried)| End { status, value, carried });
         assert_eq!(separate, Ok(ends.collect()), "{ticket}");
     }
 }

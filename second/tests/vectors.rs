@@ -1,6 +1,9 @@
-//! All vectors of the repository's tests/vectors. The results of base.jsonl and
-//! paper-01.jsonl are those of a program without Paper 2: what is written now,
-//! with two bytes of each line 11 struck out.
+//! All vectors of the repository's tests/vectors. Those of the papers say what is
+//! written when all papers have landed, which for a coordinator ticket is what is
+//! written since Paper 4; and what was written when their own had landed, which is
+//! that but for counts. The results of base.jsonl are those of a program without
+//! Papers 2 and 4: what is written now, with two bytes of each line 11 struck out,
+//! and both without the counts of line 12.
 
 mod json;
 
@@ -27,23 +30,28 @@ fn room(vector: &Object) -> usize {
     }
 }
 
-/// A result without the two bytes behind the value of each line 11.
-fn without_counts(printed: &str) -> String {
-    let mut struck_out = String::new();
-    for line in printed.lines() {
-        let process_line = line.starts_with("11");
-        assert!(!process_line || line.len() == 20, "{line}");
-        struck_out += if process_line { &line[..16] } else { line };
-        struck_out.push('\n');
+/// How many digits of a line of a result are no counts.
+fn uncounted(line: &str) -> usize {
+    match &line[..2] {
+        "11" => 16,
+        "12" => 8,
+        _ => line.len(),
     }
-    struck_out
 }
 
-/// What is written for a ticket of before Paper 2, with the two bytes struck out.
-/// The output is longer by as much as they take.
-fn printed_before(simulator: &mut Simulator, ticket: &[u8], room: usize) -> String {
-    let n = Ticket::parse(ticket).map_or(0, |ticket| ticket.n);
-    without_counts(&simulator.print(ticket, room + 4 * usize::from(n)))
+/// A result without its counts: the two bytes behind the value of each line 11,
+/// if there are any, and the last four bytes of line 12.
+fn without_counts(printed: &str) -> String {
+    printed.lines().map(|line| line[..uncounted(line)].to_string() + "\n").collect()
+}
+
+/// What the vector of a paper says is written now: of a coordinator ticket, what
+/// is written when all papers have landed; of a flood ticket, which is refused
+/// until Paper 5 lands, what is written when the vector's own paper has.
+fn written_now(vector: &Object, ticket: &[u8]) -> String {
+    let is_flood = ticket.starts_with(b"05") || ticket.starts_with(b"06");
+    let field = if is_flood { "result" } else { "result_when_all_have_landed" };
+    vector.text(field).to_string()
 }
 
 #[test]
@@ -53,8 +61,13 @@ fn tickets() {
     for (line, vector) in (1..).zip(&vectors) {
         let about = format!("line {line}: {}", vector.text("about"));
         let ticket = vector.bytes("ticket");
-        let printed = printed_before(&mut simulator, &ticket, room(vector));
-        assert_eq!(printed, vector.text("result"), "{about}");
+        // The output is longer by what Paper 2 adds.
+        let n = Ticket::parse(&ticket).map_or(0, |ticket| ticket.n);
+        let printed = simulator.print(&ticket, room(vector) + 4 * usize::from(n));
+        let lines = printed.lines().filter(|line| line.starts_with("11"));
+        assert!(lines.clone().all(|line| line.len() == 20), "{about}");
+        let result = vector.text("result");
+        assert_eq!(without_counts(&printed), without_counts(result), "{about}");
 
         let rounds = simulator.settling_rounds(&ticket);
         if vector.has("settling_rounds_that_qualify") {
@@ -80,8 +93,8 @@ fn tickets_of_paper_1() {
         assert!(other.eq_ignore_ascii_case(&ticket), "{about}");
         in_other_letters += usize::from(other != ticket);
         for text in [&ticket, &other] {
-            let printed = printed_before(&mut simulator, text, room(vector));
-            assert_eq!(printed, vector.text("result"), "{about}");
+            let printed = simulator.print(text, room(vector));
+            assert_eq!(printed, written_now(vector, text), "{about}");
         }
         let rounds = [&ticket, &other].map(|text| simulator.settling_rounds(text));
         assert_eq!(rounds[0], rounds[1], "{about}");
@@ -89,19 +102,35 @@ fn tickets_of_paper_1() {
     assert!(vectors.len() >= 300 && in_other_letters >= 140);
 }
 
-#[test]
-fn tickets_of_paper_2() {
+/// The results of one paper's vectors, which have the counts of today; how many
+/// tickets are accepted, and of how many Paper 4 has changed the counts.
+fn results(file: &str) -> (usize, usize, usize) {
     let mut simulator = Simulator::new();
-    let vectors = vectors("paper-02.jsonl");
-    let mut accepted = 0;
+    let vectors = vectors(file);
+    let (mut accepted, mut changed) = (0, 0);
     for (line, vector) in (1..).zip(&vectors) {
-        let about = format!("line {line}: {}", vector.text("about"));
+        let about = format!("{file}, line {line}: {}", vector.text("about"));
         let ticket = vector.written("ticket").expect(&about);
         let printed = simulator.print(&ticket, room(vector));
-        assert_eq!(printed, vector.text("result"), "{about}");
+        assert_eq!(printed, written_now(vector, &ticket), "{about}");
+        let then = vector.text("result");
+        assert_eq!(without_counts(&printed), without_counts(then), "{about}");
         accepted += usize::from(printed.starts_with("11"));
+        changed += usize::from(printed != then);
     }
-    assert!(vectors.len() >= 280 && accepted >= 160, "{accepted}");
+    (vectors.len(), accepted, changed)
+}
+
+#[test]
+fn tickets_of_paper_2() {
+    let (vectors, accepted, changed) = results("paper-02.jsonl");
+    assert!(vectors >= 280 && accepted >= 160 && changed >= 38, "{accepted} {changed}");
+}
+
+#[test]
+fn tickets_of_paper_4() {
+    let (vectors, accepted, changed) = results("paper-04.jsonl");
+    assert!(vectors >= 280 && accepted >= 160 && changed == 0, "{accepted} {changed}");
 }
 
 /// The byte that two digits make; none if they are not both digits.
@@ -125,7 +154,8 @@ fn entries_of_paper_3() {
         let ticket = vector.written("ticket").expect(about);
         let with_the_byte = [&b"010100\n0201000000"[..], &[byte, byte], b"\n04\n"].concat();
         assert_eq!(ticket, with_the_byte, "{about}");
-        assert_eq!(simulator.print(&ticket, room(vector)), vector.text("result"), "{about}");
+        let printed = simulator.print(&ticket, room(vector));
+        assert_eq!(printed, written_now(vector, &ticket), "{about}");
         match simulator.settling_rounds(&ticket) {
             Ok(rounds) => assert_eq!((rounds, value.is_some()), (vec![1], true), "{about}"),
             Err(refusal) => assert_eq!(format!("{refusal}\n"), vector.text("result"), "{about}"),

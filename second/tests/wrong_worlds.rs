@@ -7,23 +7,25 @@ use std::path::{Path, PathBuf};
 
 use second::generate;
 use second::rng::Rng;
-use second::ticket::MOST_PROCESSES;
+use second::ticket::{Ticket, MOST_PROCESSES};
 use second::worked;
 use second::worlds::claims::{answer, answer_of_simulation, Answer, Claim, CLAIMS};
 use second::worlds::model::State::{Crashed, Decided};
-use second::worlds::model::{Counts, Sent};
+use second::worlds::model::{Counts, Messages};
 use second::worlds::rules::{Rules, RIGHT};
 use second::worlds::search::{counterexample, runs};
 use second::worlds::wrong::worlds;
 use second::worlds::World;
 
+/// Every ticket of at most four processes, the worked runs, and some random ones.
+fn small_and_random_tickets() -> impl Iterator<Item = Ticket> {
+    let random = (0..500).map(|seed| generate::ticket(&mut Rng::new(seed), MOST_PROCESSES));
+    runs(&RIGHT).into_iter().map(|(ticket, _)| ticket).chain(random)
+}
+
 #[test]
 fn under_the_right_rules_the_model_is_the_second_implementation() {
-    for (ticket, _) in runs(&RIGHT) {
-        assert_eq!(answer(&ticket, &RIGHT), answer_of_simulation(&ticket), "{ticket}");
-    }
-    for seed in 0..500 {
-        let ticket = generate::ticket(&mut Rng::new(seed), MOST_PROCESSES);
+    for ticket in small_and_random_tickets() {
         assert_eq!(answer(&ticket, &RIGHT), answer_of_simulation(&ticket), "{ticket}");
     }
 }
@@ -100,41 +102,48 @@ fn said(world: &str, run: &str) -> Answer {
     said_under(&world.rules, run)
 }
 
+/// The rules of before Paper 4.
+fn rule_before_paper_4() -> Rules {
+    let every = worlds().find(|world| world.name == "coordinator/every-addressee-counted");
+    every.expect("the rule before").rules
+}
+
 /// Of a worked run: the rounds, f, the speakers, data and commits; the last
-/// round to decide in and the most messages; the rounds that qualify for
-/// settling; data and commits of the processes that come first, the others'
-/// being 0.
-type Figures = (&'static str, [u64; 5], (u8, u64), &'static [u8], &'static [Sent]);
+/// round to decide in, the most messages and the most commits; the rounds that
+/// qualify for settling; data and commits of the processes that come first, the
+/// others' being 0.
+type Figures = (&'static str, [u64; 5], (u8, u64, u64), &'static [u8], &'static [Messages]);
 
 #[test]
 fn the_figures_of_the_worked_runs() {
-    let figures: [Figures; 13] = [
-        ("case 1", [2, 1, 2, 5, 3], (2, 9), &[1, 2], &[(3, 1), (2, 2)]),
-        ("case 2", [1, 0, 1, 0, 0], (1, 0), &[1], &[]),
-        ("case 3", [1, 1, 1, 3, 3], (2, 6), &[1], &[(3, 3)]),
-        ("case 4", [2, 1, 2, 3, 2], (2, 9), &[2], &[(1, 0), (2, 2)]),
-        ("case 5", [2, 1, 2, 3, 2], (2, 9), &[2], &[(1, 0), (2, 2)]),
-        ("case 6", [3, 2, 2, 1, 1], (3, 9), &[3], &[(0, 0), (0, 0), (1, 1)]),
-        ("case 7", [2, 1, 2, 5, 3], (2, 9), &[1, 2], &[(3, 1), (2, 2)]),
-        ("case 8", [1, 0, 1, 3, 3], (1, 6), &[1], &[(3, 3)]),
+    let figures: [Figures; 14] = [
+        ("case 1", [2, 1, 2, 4, 2], (2, 9, 2), &[1, 2], &[(3, 1), (1, 1)]),
+        ("case 2", [1, 0, 1, 0, 0], (1, 0, 0), &[1], &[]),
+        ("case 3", [1, 1, 1, 3, 3], (2, 6, 3), &[1], &[(3, 3)]),
+        ("case 4", [2, 1, 2, 3, 2], (2, 9, 2), &[2], &[(1, 0), (2, 2)]),
+        ("case 5", [2, 1, 2, 3, 2], (2, 9, 2), &[2], &[(1, 0), (2, 2)]),
+        ("case 6", [3, 2, 2, 1, 1], (3, 9, 2), &[3], &[(0, 0), (0, 0), (1, 1)]),
+        ("case 7", [2, 1, 2, 4, 2], (2, 9, 2), &[1, 2], &[(3, 1), (1, 1)]),
+        ("case 8", [1, 0, 1, 3, 3], (1, 6, 3), &[1], &[(3, 3)]),
         (
             "case 9",
-            [7, 9, 7, 42, 21],
-            (10, 63),
+            [7, 9, 7, 24, 3],
+            (10, 63, 3),
             &[1, 2, 3, 4, 5, 6, 7],
-            &[(9, 3), (8, 3), (7, 3), (6, 3), (5, 3), (4, 3), (3, 3)],
+            &[(9, 3), (5, 0), (4, 0), (3, 0), (2, 0), (1, 0)],
         ),
-        ("one crashes later", [3, 2, 3, 0, 0], (3, 3), &[2, 3], &[]),
-        ("silent at last", [2, 3, 1, 3, 1], (4, 6), &[1, 2], &[(3, 1)]),
-        ("no commit", [2, 1, 2, 5, 2], (2, 9), &[1, 2], &[(3, 0), (2, 2)]),
-        ("two reached", [2, 1, 2, 4, 2], (2, 9), &[2], &[(2, 0), (2, 2)]),
+        ("one crashes later", [3, 2, 3, 0, 0], (3, 3, 0), &[2, 3], &[]),
+        ("silent at last", [2, 3, 1, 3, 1], (4, 6, 3), &[1, 2], &[(3, 1)]),
+        ("no commit", [2, 1, 2, 5, 2], (2, 9, 2), &[1, 2], &[(3, 0), (2, 2)]),
+        ("two reached", [2, 1, 2, 4, 2], (2, 9, 2), &[2], &[(2, 0), (2, 2)]),
+        ("each kind of addressee", [3, 4, 3, 7, 1], (5, 21, 3), &[1, 2, 3], &[(5, 1), (2, 0)]),
     ];
     assert_eq!(figures.map(|(name, ..)| name), worked::runs().map(|(name, _)| name));
-    for (name, counted, limits, settling_rounds, sent) in figures {
+    for (name, counted, limits, settling_rounds, shown) in figures {
         let said = said_under(&RIGHT, name);
-        let (first, others) = said.sent.split_at(sent.len());
-        assert_eq!(first, sent, "{name}");
-        assert!(others.iter().all(|&sent| sent == (0, 0)), "{name}");
+        let (first, others) = said.shown.split_at(shown.len());
+        assert_eq!(first, shown, "{name}");
+        assert!(others.iter().all(|&shown| shown == (0, 0)), "{name}");
         let Counts { rounds, speakers, data, commits } = said.counts;
         assert_eq!([rounds.into(), said.f.into(), speakers, data, commits], counted, "{name}");
         assert_eq!(said.limits, limits, "{name}");
@@ -184,43 +193,110 @@ fn the_nearest_impostor_in_case_6() {
 #[test]
 fn counts_that_no_bound_refuses() {
     assert_eq!(said("coordinator/silent-rounds-not-counted", "silent at last").counts.rounds, 1);
-    assert_eq!(said("coordinator/data-counted-as-the-commits", "case 9").counts.data, 21);
-    assert_eq!(said("coordinator/unsent-data-counted", "case 6").counts.data, 4);
+    assert_eq!(said("coordinator/data-counted-as-the-commits", "case 9").counts.data, 3);
+    assert_eq!(said("coordinator/unsent-messages-counted", "case 6").counts.data, 4);
 }
 
-/// 02, Paper 2: the counts that stand in the lines of case 1 are 3 and 1, 2 and
-/// 2, 0 and 0, 0 and 0.
+/// 02, Paper 4: "Case 1 then ends 1202010200040002, and case 9 has data 24,
+/// commits 3." The first of the other rules is that of before.
+#[test]
+fn other_messages_counted_in_cases_1_and_9() {
+    let figures = [
+        ("coordinator/every-addressee-counted", (5, 3), (42, 21)),
+        ("coordinator/messages-to-the-crashed-counted", (4, 2), (36, 15)),
+        ("coordinator/messages-to-the-decided-counted", (5, 3), (30, 9)),
+        ("coordinator/addressees-that-crash-in-the-round-left-out", (4, 2), (22, 1)),
+        ("coordinator/addressees-counted-as-the-round-ends", (2, 0), (21, 0)),
+        ("data to the crashed and to the decided are counted", (5, 2), (42, 3)),
+        ("commits to the crashed and to the decided are counted", (4, 3), (24, 21)),
+    ];
+    let messages = |said: Answer| (said.counts.data, said.counts.commits);
+    assert_eq!(messages(said_under(&RIGHT, "case 1")), (4, 2));
+    assert_eq!(messages(said_under(&RIGHT, "case 9")), (24, 3));
+    for (world, in_case_1, in_case_9) in figures {
+        assert_eq!(messages(said(world, "case 1")), in_case_1, "{world}");
+        assert_eq!(messages(said(world, "case 9")), in_case_9, "{world}");
+    }
+    // Process 7 sends in round 7 to 8, 9 and 10 alone.
+    let rounds = said("coordinator/rounds-without-counted-data-left-out", "case 9");
+    assert_eq!(rounds.counts.rounds, 6);
+    let speakers = said("a coordinator of which nothing is carried is no speaker", "case 9");
+    assert_eq!(speakers.counts.speakers, 6);
+    assert_eq!(said("coordinator/f-at-least-the-counted-commits", "case 8").f, 3);
+}
+
+/// 02, Paper 4: "who hears what is untouched; only the counts in lines 11 and 12
+/// change", and none of them rises.
+#[test]
+fn the_rule_before_paper_4_differs_in_the_counts_alone() {
+    let before = rule_before_paper_4();
+    let mut fewer = 0;
+    for ticket in small_and_random_tickets() {
+        let [then, now] = [&before, &RIGHT].map(|rules| answer(&ticket, rules));
+        let data_and_commits = |said: &Answer| (said.counts.data, said.counts.commits);
+        let (data, commits) = data_and_commits(&now);
+        let counts = Counts { data, commits, ..then.counts };
+        let shown = now.shown.clone();
+        assert_eq!(Answer { counts, shown, ..then.clone() }, now, "{ticket}");
+        for (then, now) in then.shown.iter().zip(&now.shown) {
+            assert!(now.0 <= then.0 && now.1 <= then.1, "{ticket}");
+        }
+        fewer += usize::from(data_and_commits(&then) != (data, commits));
+    }
+    assert!(fewer > 500, "{fewer}");
+}
+
+/// 02, Papers 2 and 4: the counts that stand in the lines of case 1 are 3 and 1,
+/// 1 and 1, 0 and 0, 0 and 0.
 #[test]
 fn other_counts_by_process_in_case_1() {
-    assert_eq!(said_under(&RIGHT, "case 1").sent, [(3, 1), (2, 2), (0, 0), (0, 0)]);
+    assert_eq!(said_under(&RIGHT, "case 1").shown, [(3, 1), (1, 1), (0, 0), (0, 0)]);
     let figures = [
-        ("coordinator/commits-kept-as-data-of-their-sender", [(1, 1), (2, 2), (0, 0), (0, 0)]),
-        ("coordinator/messages-kept-for-the-next-process", [(0, 0), (3, 1), (2, 2), (0, 0)]),
-        ("coordinator/every-process-has-the-total", [(5, 3); 4]),
-        ("formats/commits-of-a-process-before-its-data", [(1, 3), (2, 2), (0, 0), (0, 0)]),
-        ("formats/counts-of-the-next-process", [(2, 2), (0, 0), (0, 0), (0, 0)]),
-        ("formats/total-in-every-line", [(5, 3); 4]),
-        ("the counts of all stand in the first line", [(5, 3), (0, 0), (0, 0), (0, 0)]),
-        ("formats/crashed-process-shows-no-messages", [(0, 0), (2, 2), (0, 0), (0, 0)]),
-        ("a crashed process has no data", [(0, 1), (2, 2), (0, 0), (0, 0)]),
-        ("counts are cut to one bit", [(1, 1), (0, 0), (0, 0), (0, 0)]),
+        ("coordinator/commits-kept-as-data-of-their-sender", [(1, 1), (1, 1), (0, 0), (0, 0)]),
+        ("coordinator/messages-kept-for-the-next-process", [(0, 0), (3, 1), (1, 1), (0, 0)]),
+        ("coordinator/every-process-has-the-total", [(4, 2); 4]),
+        ("formats/commits-of-a-process-before-its-data", [(1, 3), (1, 1), (0, 0), (0, 0)]),
+        ("formats/counts-of-the-next-process", [(1, 1), (0, 0), (0, 0), (0, 0)]),
+        ("formats/total-in-every-line", [(4, 2); 4]),
+        ("the counts of all stand in the first line", [(4, 2), (0, 0), (0, 0), (0, 0)]),
+        ("formats/crashed-process-shows-no-messages", [(0, 0), (1, 1), (0, 0), (0, 0)]),
+        ("a crashed process has no data", [(0, 1), (1, 1), (0, 0), (0, 0)]),
+        ("counts are cut to one bit", [(1, 1), (1, 1), (0, 0), (0, 0)]),
     ];
-    for (world, sent) in figures {
-        assert_eq!(said(world, "case 1").sent, sent, "{world}");
+    for (world, shown) in figures {
+        assert_eq!(said(world, "case 1").shown, shown, "{world}");
     }
-    // In case 6 alone of the cases does process t + 1 send.
-    assert_eq!(said_under(&RIGHT, "case 6").sent, [(0, 0), (0, 0), (1, 1), (0, 0)]);
+    // In case 6 alone of the cases is something of process t + 1 carried.
+    assert_eq!(said_under(&RIGHT, "case 6").shown, [(0, 0), (0, 0), (1, 1), (0, 0)]);
     let left_out = said("coordinator/messages-of-the-last-round-left-out", "case 6");
-    assert_eq!(left_out.sent, [(0, 0), (0, 0), (1, 0), (0, 0)]);
+    assert_eq!(left_out.shown, [(0, 0), (0, 0), (1, 0), (0, 0)]);
 }
 
-/// 01, case 9: "sum 63, the bound exactly; document 001 gives 55".
+/// Case 9 has as many commits as its limit allows, and 27 messages of 63.
 #[test]
 fn other_limits_of_case_9() {
-    assert_eq!(said("formats/bound-of-theorem-2", "case 9").limits, (10, 55));
-    assert_eq!(said("coordinator/bound-too-low", "case 9").limits, (10, 62));
-    assert_eq!(said("coordinator/bound-too-high", "case 9").limits, (10, 64));
-    assert_eq!(said("coordinator/one-round-more-to-decide", "case 9").limits, (11, 63));
+    assert_eq!(said_under(&RIGHT, "case 9").limits, (10, 63, 3));
+    assert_eq!(said("coordinator/bound-too-low", "case 9").limits, (10, 62, 3));
+    assert_eq!(said("coordinator/bound-too-high", "case 9").limits, (10, 64, 3));
+    assert_eq!(said("coordinator/commit-bound-too-low", "case 9").limits, (10, 63, 2));
+    assert_eq!(said("coordinator/commit-bound-too-high", "case 9").limits, (10, 63, 4));
+    assert_eq!(said("coordinator/one-round-more-to-decide", "case 9").limits, (11, 63, 3));
+}
+
+/// Document 001's Theorem 2 gives (f + 1)(2n − 1 − 3f/2), "which fails for large f:
+/// see case 9" (01): of the messages sent. Of those carried it holds.
+#[test]
+fn the_bound_of_document_001_fails_of_messages_sent_alone() {
+    let before = rule_before_paper_4();
+    let bound = |n: u64, f: u64| (f + 1) * (4 * n - 2).saturating_sub(3 * f) / 2;
+    let holds = |ticket: &Ticket, rules: &Rules| {
+        let Answer { f, counts, .. } = answer(ticket, rules);
+        counts.data + counts.commits <= bound(ticket.n.into(), f.into())
+    };
+    assert!(!holds(&worked::case(9), &before));
+    for ticket in small_and_random_tickets() {
+        assert!(holds(&ticket, &RIGHT), "{ticket}");
+    }
 }
 
 #[test]

@@ -1,27 +1,26 @@
--- Bounds of what a run counts, so that it fits the numbers and the bytes that hold it: the rounds and the speakers of r rounds are at most r, round r sends
--- at most n - r messages of each kind; and all counts of a run, f too (CrashCount), fit a result's last line. For well-formed instances where it says so.
--- Assumes nothing else.
+-- Bounds of what a run counts, so that it fits the numbers and the bytes that hold it: the rounds and the speakers of r rounds are at most r, the messages
+-- of each kind at most 64 for each round; and all counts of a run, f too (CrashCount), fit a result's last line. For well-formed instances where it says
+-- so. Assumes nothing else.
 use mathlib.Core.List.{List, [], _∷_, map}
 use mathlib.Core.Logic.{_⊎_, inl, inr}
 use mathlib.Core.Path.{_≡_, refl, ap}
 use mathlib.Core.Bool.{Bool, true, false}
-use Prim.Native.Nat.{ℕ, zero, suc, _-_, _*_, _≤_, _<_}
+use Prim.Native.Nat.{ℕ, zero, suc, _*_, _≤_, _<_}
 use native.Mathlib.Omega.{arith}
 use native.Mathlib.Nat.{le-refl, le-trans}
 use native.Mathlib.Decide.{le-ind}
-use lib.Dec.{eqb}
 use lib.ListN.{length}
 use Rattle.general.proofs.Tests.{cond-le}
-use Rattle.general.proofs.Bits.{size-above}
-use Rattle.consensus.specs.Instance.{Instance, Fault, correct, crashes, CrashPoint, beforeSending, duringData, duringCommits, faultOf}
-use Rattle.consensus.specs.State.{State, undecided}
+use Rattle.consensus.specs.Instance.{Instance}
+use Rattle.consensus.specs.State.{undecided}
 use Rattle.coordinator.specs.Undecided.{isUndecided, anyUndecided}
-use Rattle.coordinator.specs.Count.{speaks, dataAt, commitsAt, countIn, dataIn, commitsIn}
+use Rattle.coordinator.specs.Count.{speaks}
 use Rattle.coordinator.specs.Run.{Run, initial, withRound, runTo, runOf, crashesOf, lastRound}
-use Rattle.consensus.specs.WellFormed.{FaultAllowedBy}
-use Rattle.coordinator.specs.WellFormed.{WellFormed, PointAllowed}
+use Rattle.coordinator.specs.WellFormed.{WellFormed}
+use Rattle.coordinator.proofs.Pointwise.{length-states}
 use Rattle.coordinator.proofs.CrashCount.{crashes-le}
 use Rattle.coordinator.proofs.Ended.{round-ended, round-counted}
+use Rattle.coordinator.proofs.Carried.{data-in-le, commits-in-le}
 
 -- A round is counted, or the rounds stay as they were.
 rounds-step : (x : Instance) (r : ℕ) → (runTo x (suc r) .rounds ≡ suc r) ⊎ (runTo x (suc r) .rounds ≡ runTo x r .rounds)
@@ -71,56 +70,16 @@ first-round x h = round-counted x 1 (initial x) (proposed-undecided (x .proposal
 pub rounds-pos : (x : Instance) → WellFormed x → (r : ℕ) → 1 ≤ r → 1 ≤ runTo x r .rounds
 rounds-pos x w r h = omega (arith, first-round x (omega arith), rounds-mono x 1 r h)
 
--- What a speaker that crashes at an allowed point sends of either kind.
-data-allowed : (n p round : ℕ) (point : CrashPoint) → p ≤ n → n ≤ 64 → PointAllowed n p round point → dataAt (n - p) point ≤ n - p
-unfolding dataAt PointAllowed
-data-allowed n p round beforeSending h g a = omega arith
-data-allowed n p round (duringData reached) h g a = size-above p n reached h g (a .1) (a .2)
-data-allowed n p round (duringCommits sent) h g a = omega arith
-
-commits-allowed : (n p round : ℕ) (point : CrashPoint) → PointAllowed n p round point → commitsAt (n - p) point ≤ n - p
-unfolding commitsAt PointAllowed
-commits-allowed n p round beforeSending a = omega arith
-commits-allowed n p round (duringData reached) a = omega arith
-commits-allowed n p round (duringCommits sent) a = omega arith
-
-count-le : (at : ℕ → CrashPoint → ℕ) (whole r : ℕ) (fault : Fault)
-    → ((round : ℕ) (point : CrashPoint) → fault ≡ crashes round point → at whole point ≤ whole) → countIn at whole r fault ≤ whole
-unfolding countIn
-count-le at whole r correct h = le-refl whole
-count-le at whole r (crashes round point) h = cond-le (eqb round r) (at whole point) whole whole (h round point refl) (le-refl whole)
-
 module _ (x : Instance) (w : WellFormed x) where
-  point-allowed : (p round : ℕ) (point : CrashPoint) → 1 ≤ p → p ≤ x .processes → faultOf x p ≡ crashes round point → PointAllowed (x .processes) p round point
-  unfolding FaultAllowedBy
-  point-allowed p round point h g e = (rw e at (w .faults-allowed p h g)) .2
-
-  -- Round r sends at most n - r data messages, and at most n - r commit messages.
-  pub data-in-le : (r : ℕ) (states : List State) → 1 ≤ r → r ≤ x .processes → dataIn x r states ≤ x .processes - r
-  unfolding dataIn
-  data-in-le r states h g =
-      cond-le (speaks r states) (countIn dataAt (x .processes - r) r (faultOf x r)) 0 (x .processes - r)
-      (count-le dataAt (x .processes - r) r (faultOf x r)
-      (λ round point e. data-allowed (x .processes) r round point g (w .at-most-64) (point-allowed r round point h g e)))
-      (omega arith)
-
-  pub commits-in-le : (r : ℕ) (states : List State) → 1 ≤ r → r ≤ x .processes → commitsIn x r states ≤ x .processes - r
-  unfolding commitsIn
-  commits-in-le r states h g =
-      cond-le (speaks r states) (countIn commitsAt (x .processes - r) r (faultOf x r)) 0 (x .processes - r)
-      (count-le commitsAt (x .processes - r) r (faultOf x r)
-      (λ round point e. commits-allowed (x .processes) r round point (point-allowed r round point h g e)))
-      (omega arith)
-
   pub data-sent-le : (r : ℕ) → r ≤ x .processes → runTo x r .dataSent ≤ r * 64
   unfolding runTo initial withRound
   data-sent-le zero h = omega arith
-  data-sent-le (suc r) h = omega (arith, data-sent-le r (omega arith), data-in-le (suc r) (runTo x r .states) (omega arith) h)
+  data-sent-le (suc r) h = omega (arith, data-sent-le r (omega arith), data-in-le x (suc r) (runTo x r .states), length-states x r)
 
   pub commits-sent-le : (r : ℕ) → r ≤ x .processes → runTo x r .commitsSent ≤ r * 64
   unfolding runTo initial withRound
   commits-sent-le zero h = omega arith
-  commits-sent-le (suc r) h = omega (arith, commits-sent-le r (omega arith), commits-in-le (suc r) (runTo x r .states) (omega arith) h)
+  commits-sent-le (suc r) h = omega (arith, commits-sent-le r (omega arith), commits-in-le x (suc r) (runTo x r .states), length-states x r)
 
 -- What the last line of a result has room for: one byte each for the rounds, the crashes and the speakers, two each for the data and the commit messages.
 pub record CountsFit (x : Instance) : Type 0 where

@@ -12,7 +12,7 @@ use Rattle.consensus.specs.Instance.{Instance, Fault}
 use Rattle.consensus.specs.State.{State, undecided, decided, crashed}
 use Rattle.coordinator.specs.Round.{after, statesAfter}
 use Rattle.coordinator.specs.Undecided.{isUndecided, anyUndecided}
-use Rattle.coordinator.specs.Count.{speaks, dataIn, commitsIn}
+use Rattle.coordinator.specs.Count.{speaks, carriedIn, dataIn, commitsIn}
 use Rattle.coordinator.specs.Run.{Run, initial, withRound, runTo}
 use Rattle.coordinator.proofs.Undecided.{none-undecided}
 
@@ -38,7 +38,7 @@ states-ended x r states h = all-ended _ (λ p s e. after-ended r p _ _ s e) 1 st
 
 -- A round that begins after the run's end leaves the run as it is.
 pub round-ended : (x : Instance) (r : ℕ) (run : Run) → anyUndecided (run .states) ≡ false → withRound x r run ≡ run
-unfolding withRound dataIn commitsIn speaks
+unfolding withRound dataIn commitsIn carriedIn speaks
 round-ended x r run h = simp (states-ended x r (run .states) h, none-undecided (run .states) r h, h, add-zero)
 
 -- A round that begins before the run's end is counted.

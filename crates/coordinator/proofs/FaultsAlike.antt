@@ -2,17 +2,19 @@
 -- instances whose faults it does not tell apart have the same round from the same states. Assumes nothing.
 use mathlib.Core.List.{List}
 use mathlib.Core.Path.{_≡_, refl, sym, ap, _∙_}
-use mathlib.Core.Bool.{Bool, true, false, cond}
-use Prim.Native.Nat.{ℕ, _≤_}
+use mathlib.Core.Bool.{Bool, true, false, cond, _&&_}
+use Prim.Native.Nat.{ℕ, _+_, _≤_}
+use lib.Dec.{ltb}
 use lib.ListN.{length}
-use Rattle.general.proofs.Indexed.{length-mapFrom}
-use Rattle.consensus.specs.Instance.{Instance, Fault, correct, crashes, CrashPoint, faultOf}
+use Rattle.general.specs.Indexed.{countFrom}
+use Rattle.general.proofs.Indexed.{length-mapFrom, count-same}
+use Rattle.consensus.specs.Instance.{Instance, Fault, faultOf}
 use Rattle.consensus.specs.State.{State, undecided, decided, crashed, stateOf, crashesIn}
-use Rattle.coordinator.specs.Message.{Messages}
+use Rattle.coordinator.specs.Message.{Messages, Reach, none, getsData, getsCommit}
 use Rattle.coordinator.specs.Delivery.{reach, reachIn}
 use Rattle.coordinator.specs.Round.{sentBy, received, after, statesAfter}
 use Rattle.coordinator.specs.Undecided.{isUndecided}
-use Rattle.coordinator.specs.Count.{countIn, speaks, dataIn, commitsIn}
+use Rattle.coordinator.specs.Count.{speaks, carries, carriedIn, dataIn, commitsIn}
 use Rattle.coordinator.specs.Run.{Run, withRound}
 use Rattle.coordinator.proofs.Pointwise.{states-ext, round-state}
 use Rattle.coordinator.proofs.Rounds.{nothing-arrives}
@@ -23,12 +25,6 @@ pub data AlikeIn (r : ℕ) (fault fault′ : Fault) : Type 0 where
   same : fault ≡ fault′ → AlikeIn r fault fault′
   ofOthers : crashesIn r fault ≡ false → crashesIn r fault′ ≡ false → AlikeIn r fault fault′
 
--- A speaker whose fault is not of this round sends all.
-count-up : (at : ℕ → CrashPoint → ℕ) (whole r : ℕ) (fault : Fault) → crashesIn r fault ≡ false → countIn at whole r fault ≡ whole
-unfolding crashesIn countIn
-count-up at whole r correct e = refl
-count-up at whole r (crashes round point) e = rw e
-
 module _ (r : ℕ) {fault fault′ : Fault} where
   crashes-alike : AlikeIn r fault fault′ → crashesIn r fault ≡ crashesIn r fault′
   crashes-alike (same e) = ap (crashesIn r) e
@@ -37,10 +33,6 @@ module _ (r : ℕ) {fault fault′ : Fault} where
   reach-alike : (n p : ℕ) → AlikeIn r fault fault′ → reachIn n fault r p ≡ reachIn n fault′ r p
   reach-alike n p (same e) = ap (λ (f : Fault). reachIn n f r p) e
   reach-alike n p (ofOthers e e′) = reach-up n fault r p e ∙ sym (reach-up n fault′ r p e′)
-
-  count-alike : (at : ℕ → CrashPoint → ℕ) (whole : ℕ) → AlikeIn r fault fault′ → countIn at whole r fault ≡ countIn at whole r fault′
-  count-alike at whole (same e) = ap (countIn at whole r) e
-  count-alike at whole (ofOthers e e′) = count-up at whole r fault e ∙ sym (count-up at whole r fault′ e′)
 
   -- What a process becomes: its own fault matters only if it is undecided.
   after-alike : (p : ℕ) (m : Messages) (s : State) → (isUndecided s ≡ true → AlikeIn r fault fault′) → after r p fault m s ≡ after r p fault′ m s
@@ -55,12 +47,6 @@ module _ (r : ℕ) {fault fault′ : Fault} where
   received-alike n p (undecided v) alike = rw (reach-alike n p (alike refl))
   received-alike n p (decided i v) alike = nothing-arrives _ ∙ sym (nothing-arrives _)
   received-alike n p (crashed i) alike = nothing-arrives _ ∙ sym (nothing-arrives _)
-
-  -- What is counted: the same.
-  counted-alike : (at : ℕ → CrashPoint → ℕ) (whole : ℕ) (b : Bool) → (b ≡ true → AlikeIn r fault fault′)
-      → cond b (countIn at whole r fault) 0 ≡ cond b (countIn at whole r fault′) 0
-  counted-alike at whole true alike = count-alike at whole (alike refl)
-  counted-alike at whole false alike = refl
 
 -- One round of two instances from the same states: `alike` says that it does not tell the faults apart of a process that begins it undecided.
 module _ (x y : Instance) (size : x .processes ≡ y .processes) (r : ℕ) (states : List State) (first : 1 ≤ r) (last : r ≤ length states)
@@ -79,22 +65,28 @@ module _ (x y : Instance) (size : x .processes ≡ y .processes) (r : ℕ) (stat
           (ap (λ (n : ℕ). received n r (faultOf x r) (stateOf states r) p) size ∙ received-alike r (y .processes) p (stateOf states r) (alike r first last))
           ∙ after-alike r p _ (stateOf states p) (alike p h g)
 
-  data-alike : dataIn x r states ≡ dataIn y r states
-  unfolding dataIn speaks faultOf
-  data-alike = rw size (counted-alike r _ _ (isUndecided (stateOf states r)) (alike r first last))
-
-  commits-alike : commitsIn x r states ≡ commitsIn y r states
-  unfolding commitsIn speaks faultOf
-  commits-alike = rw size (counted-alike r _ _ (isUndecided (stateOf states r)) (alike r first last))
+  -- What is counted: the coordinator's fault matters only if it speaks.
+  carried-alike : (gets : Reach → Bool) → carriedIn gets x r states ≡ carriedIn gets y r states
+  unfolding carriedIn carries speaks reach
+  carried-alike gets = by-test (isUndecided (stateOf states r)) refl
+    where
+      by-test : (b : Bool) → isUndecided (stateOf states r) ≡ b
+          → cond b (countFrom (carries gets x r) 1 states) 0 ≡ cond b (countFrom (carries gets y r) 1 states) 0
+      by-test true spoke =
+          count-same _ _ 1 states
+          (λ k s _ _.
+          ap (λ (n : ℕ). isUndecided s && gets (reach n (faultOf x r) r (1 + k))) size
+          ∙ ap (λ (far : Reach). isUndecided s && gets (cond (ltb r (1 + k)) far none)) (reach-alike r (y .processes) (1 + k) (alike r first last spoke)))
+      by-test false silent = refl
 
 -- A round looks only at the faults of undecided processes, and at those only as far as they are of this round.
 pub round-alike : (x y : Instance) → x .processes ≡ y .processes → (r : ℕ) (run : Run) → 1 ≤ r → r ≤ length (run .states)
     → ((p : ℕ) → 1 ≤ p → p ≤ length (run .states) → isUndecided (stateOf (run .states) p) ≡ true → AlikeIn r (faultOf x p) (faultOf y p))
     → withRound x r run ≡ withRound y r run
-unfolding withRound
+unfolding withRound dataIn commitsIn
 round-alike x y size r run first last alike =
     rw (
       states-alike x y size r (run .states) first last alike,
-      data-alike x y size r (run .states) first last alike,
-      commits-alike x y size r (run .states) first last alike,
+      carried-alike x y size r (run .states) first last alike getsData,
+      carried-alike x y size r (run .states) first last alike getsCommit,
     )

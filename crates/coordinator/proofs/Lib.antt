@@ -10,6 +10,9 @@ pub mod Locking
 pub mod Faults
 pub mod Ends
 pub mod CrashCount
+pub mod SentSets
+pub mod Carried
+pub mod CountsBySets
 pub mod Counts
 pub mod Termination
 pub mod Validity
@@ -20,7 +23,6 @@ pub mod Pair
 pub mod Settled
 pub mod Speakers
 pub mod Bound
-pub mod CountsReached
 pub mod MessagesBySender
 pub mod RunRounds
 pub mod FaultsAlike

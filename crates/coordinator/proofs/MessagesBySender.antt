@@ -15,24 +15,25 @@ use Rattle.consensus.specs.Instance.{Instance}
 use Rattle.consensus.specs.State.{State}
 use Rattle.consensus.specs.Consensus.{IsProcess}
 use Rattle.coordinator.specs.Undecided.{anyUndecided}
-use Rattle.coordinator.specs.Count.{speaks, dataIn, commitsIn}
+use Rattle.coordinator.specs.Count.{speaks, carriedIn, dataIn, commitsIn}
 use Rattle.coordinator.specs.Run.{Run, initial, withRound, runTo, runOf, lastRound}
 use Rattle.coordinator.specs.RunRounds.{RunRounds}
 use Rattle.coordinator.specs.WellFormed.{WellFormed}
 use Rattle.coordinator.specs.MessagesBySender.{sentAfter, dataBy, commitsBy, BySender, MessagesBySender}
+use Rattle.coordinator.proofs.Pointwise.{length-states}
 use Rattle.coordinator.proofs.Undecided.{none-undecided}
 use Rattle.coordinator.proofs.Ended.{run-ended}
-use Rattle.coordinator.proofs.Counts.{data-in-le, commits-in-le}
+use Rattle.coordinator.proofs.Carried.{data-in-le, commits-in-le}
 use Rattle.coordinator.proofs.Settled.{run-over}
 use Rattle.coordinator.proofs.RunRounds.{run-rounds}
 
 -- A round that begins with no process up and undecided counts no message.
 pub data-silent : (x : Instance) (r : ℕ) (states : List State) → anyUndecided states ≡ false → dataIn x r states ≡ 0
-unfolding dataIn speaks
+unfolding dataIn carriedIn speaks
 data-silent x r states h = rw (none-undecided states r h)
 
 pub commits-silent : (x : Instance) (r : ℕ) (states : List State) → anyUndecided states ≡ false → commitsIn x r states ≡ 0
-unfolding commitsIn speaks
+unfolding commitsIn carriedIn speaks
 commits-silent x r states h = rw (none-undecided states r h)
 
 -- Messages of one kind.
@@ -105,7 +106,7 @@ module _ (counted : Instance → ℕ → List State → ℕ) (x : Instance) wher
               ap (λ (run : Run). anyUndecided (run .states)) (run-ended x (lastRound x) (p - 1) over (omega arith)) ∙ over
 
       module _ (total : Run → ℕ) (none : total (initial x) ≡ 0) (more : (r : ℕ) (run : Run) → total (withRound x r run) ≡ total run + counted x r (run .states))
-          (few : (r : ℕ) (states : List State) → 1 ≤ r → r ≤ x .processes → counted x r states ≤ x .processes - r) where
+          (few : (r : ℕ) (states : List State) → counted x r states ≤ length states - r) where
         total-first : total (runTo x 0) ≡ 0
         unfolding runTo
         total-first = none
@@ -124,14 +125,15 @@ module _ (counted : Instance → ℕ → List State → ℕ) (x : Instance) wher
                   (omega arith);
               ofRound = of-round;
               afterTheRun = λ p process late. of-round p process ∙ silent p _ (after-run p process late);
-              toThoseAbove = λ p process. rw (of-round p process) (few p _ (process .first) (process .last));
+              toThoseAbove = λ p process.
+                  rw (of-round p process) (omega (arith, few p (runTo x (p - 1) .states), length-states x (p - 1), formed .all-propose));
             }
 
 pub messages-by-sender : (x : Instance) → WellFormed x → MessagesBySender x
 unfolding initial withRound dataBy commitsBy
 messages-by-sender x formed =
     record {
-      ofData = by-sender dataIn x (data-silent x) formed (λ run. run .dataSent) refl (λ r run. refl) (data-in-le x formed);
+      ofData = by-sender dataIn x (data-silent x) formed (λ run. run .dataSent) refl (λ r run. refl) (data-in-le x);
       ofCommits =
-          by-sender commitsIn x (commits-silent x) formed (λ run. run .commitsSent) refl (λ r run. refl) (commits-in-le x formed);
+          by-sender commitsIn x (commits-silent x) formed (λ run. run .commitsSent) refl (λ r run. refl) (commits-in-le x);
     }

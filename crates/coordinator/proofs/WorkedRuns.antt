@@ -1,18 +1,17 @@
 -- The worked runs are what the definitions give, row by row: both sides are computed, so the line below names every definition on the way.
 -- Assumes nothing.
 use mathlib.Core.Path.{refl}
-use lib.Count.{onesIn}
-use Rattle.general.specs.Bits.{member, ones64}
+use Rattle.general.specs.Bits.{member}
 use Rattle.general.specs.Indexed.{mapFrom, countFrom}
 use Rattle.general.specs.Counts.{addAt}
-use Rattle.coordinator.specs.Message.{arriving}
+use Rattle.coordinator.specs.Message.{arriving, getsData, getsCommit}
 use Rattle.consensus.specs.Instance.{faultOf}
 use Rattle.coordinator.specs.Transition.{sends, receives}
 use Rattle.coordinator.specs.Delivery.{amongFirst, reachAt, reachIn, reach}
 use Rattle.consensus.specs.State.{stateOf, crashesIn}
 use Rattle.coordinator.specs.Round.{sentBy, received, afterOutcome, after, statesAfter}
 use Rattle.coordinator.specs.Undecided.{isUndecided, anyUndecided}
-use Rattle.coordinator.specs.Count.{dataAt, commitsAt, countIn, speaks, dataIn, commitsIn}
+use Rattle.coordinator.specs.Count.{speaks, carries, carriedIn, dataIn, commitsIn}
 use Rattle.consensus.specs.CrashCount.{isIdle, countsAsCrash, crashCount}
 use Rattle.coordinator.specs.Run.{initial, withRound, runTo, runOf, crashesOf, endOf, latestOf}
 use Rattle.coordinator.specs.MessagesBySender.{sentAfter, dataBy, commitsBy}
@@ -24,11 +23,11 @@ use Rattle.coordinator.specs.WorkedTable.{workedRuns}
 use Rattle.coordinator.specs.WorkedRuns.{qualifyingTo, qualifyingRounds, worked, AsWorked, WorkedRuns}
 
 pub worked-runs : WorkedRuns
-unfolding four firstCrashes afterOneCommit dataToTheLast idleBesides idleAlone case1Ends case8Ends countFrom workedRuns AsWorked worked qualifyingTo qualifyingRounds onesIn member ones64 mapFrom addAt sentAfter dataBy commitsBy arriving faultOf sends receives amongFirst reachAt reachIn reach stateOf crashesIn sentBy received afterOutcome after statesAfter isUndecided anyUndecided dataAt commitsAt countIn speaks dataIn commitsIn isIdle countsAsCrash crashCount initial withRound runTo runOf crashesOf valuesHeld allAre oneValue qualifies latestOf endOf faultLeft withoutIdle
+unfolding four firstCrashes afterOneCommit dataToTheLast idleBesides idleAlone case1Ends case8Ends countFrom workedRuns AsWorked worked qualifyingTo qualifyingRounds member mapFrom addAt sentAfter dataBy commitsBy arriving getsData getsCommit faultOf sends receives amongFirst reachAt reachIn reach stateOf crashesIn sentBy received afterOutcome after statesAfter isUndecided anyUndecided speaks carries carriedIn dataIn commitsIn isIdle countsAsCrash crashCount initial withRound runTo runOf crashesOf valuesHeld allAre oneValue qualifies latestOf endOf faultLeft withoutIdle
 worked-runs =
     record {
       number = refl;
-      asWorked = (refl, (refl, (refl, (refl, (refl, (refl, (refl, (refl, (refl, (refl, (refl, (refl, (refl, tt)))))))))))));
+      asWorked = (refl, (refl, (refl, (refl, (refl, (refl, (refl, (refl, (refl, (refl, (refl, (refl, (refl, (refl, tt))))))))))))));
       idleTakenOut = refl;
       otherLeft = refl;
     }

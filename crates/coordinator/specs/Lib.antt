@@ -9,7 +9,7 @@ pub mod Settling
 pub mod WellFormed
 pub mod Pairing
 pub mod SpeakerBound
-pub mod CountsReached
+pub mod CountsBySets
 pub mod MessagesBySender
 pub mod RunRounds
 pub mod IdleLines

@@ -1,5 +1,5 @@
 -- The messages by the process that sent them (document 02, Paper 2: "data, then commits, sent by that station. The counts over all stations add up to line
--- 12").
+-- 12"), as far as they count (Paper 4, by Count).
 use mathlib.Core.List.{List}
 use mathlib.Core.Path.{_≡_}
 use Prim.Native.Nat.{ℕ, zero, suc, _-_, _≤_, _<_}

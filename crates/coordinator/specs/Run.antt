@@ -18,7 +18,7 @@ pub record Run : Type 0 where
   pub rounds : ℕ
   -- the coordinators that began their own round up and undecided
   pub speakers : ℕ
-  -- the data and the commit messages sent
+  -- the data and the commit messages sent that count (document 02, Paper 4: those that were carried)
   pub dataSent : ℕ
   pub commitsSent : ℕ
 

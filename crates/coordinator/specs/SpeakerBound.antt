@@ -1,5 +1,6 @@
 -- The bound by speakers (document 01, 'A round', third paragraph): with k speakers and f crashes among n processes, k ≤ f + 1, and data and commits
--- together are at most k(2n − k − 1) − k(k − 1)/2.
+-- together are at most k(2n − k − 1) − k(k − 1)/2; and that on commits (document 02, Paper 4: "The bound by speakers must still hold, and line 12's commits
+-- are at most n less its speakers").
 use Prim.Native.Nat.{ℕ, suc, _+_, _-_, _*_, _/_, _≤_}
 use Rattle.consensus.specs.Instance.{Instance}
 use Rattle.coordinator.specs.Run.{runOf, crashesOf}
@@ -8,7 +9,12 @@ use Rattle.coordinator.specs.Run.{runOf, crashesOf}
 abbrev pub boundBySpeakers : (n k : ℕ) → ℕ
 boundBySpeakers n k = k * (2 * n - k - 1) - k * (k - 1) / 2
 
+-- Document 02's bound on commits alone.
+abbrev pub commitsBySpeakers : (n k : ℕ) → ℕ
+commitsBySpeakers n k = n - k
+
 pub record SpeakerBound (x : Instance) : Type 0 where
   pub speakers : runOf x .speakers ≤ suc (crashesOf x)
   pub speakersFit : runOf x .speakers ≤ x .processes
   pub messages : runOf x .dataSent + runOf x .commitsSent ≤ boundBySpeakers (x .processes) (runOf x .speakers)
+  pub commits : runOf x .commitsSent ≤ commitsBySpeakers (x .processes) (runOf x .speakers)

@@ -8,7 +8,7 @@ use Rattle.consensus.specs.Instance.{Instance}
 use Rattle.coordinator.specs.Run.{lastRound, runOf, crashesOf, latestOf}
 use Rattle.coordinator.specs.MessagesBySender.{dataBy, commitsBy}
 use Rattle.coordinator.specs.Settling.{qualifies}
-use Rattle.coordinator.specs.SpeakerBound.{boundBySpeakers}
+use Rattle.coordinator.specs.SpeakerBound.{boundBySpeakers, commitsBySpeakers}
 use Rattle.consensus.specs.FourProcesses.{afterOneCommit, idleBesides}
 use Rattle.coordinator.specs.IdleLines.{withoutIdle}
 use Rattle.coordinator.specs.WorkedTable.{WorkedRun, workedRuns}
@@ -31,7 +31,8 @@ worked x =
       counts = runOf x .rounds ∷ crashesOf x ∷ runOf x .speakers ∷ runOf x .dataSent ∷ runOf x .commitsSent ∷ [];
       dataBy = dataBy x;
       commitsBy = commitsBy x;
-      limits = latestOf x ∷ boundBySpeakers (x .processes) (runOf x .speakers) ∷ [];
+      limits =
+          latestOf x ∷ boundBySpeakers (x .processes) (runOf x .speakers) ∷ commitsBySpeakers (x .processes) (runOf x .speakers) ∷ [];
       settling = qualifyingRounds x;
     }
 
@@ -40,9 +41,9 @@ unfoldable pub AsWorked : List WorkedRun → Type 0
 AsWorked [] = Unit {0}
 AsWorked (w ∷ runs) = (worked (w .run) ≡ w) × AsWorked runs
 
--- The claim: so are the 13 runs of the table.
+-- The claim: so are the 14 runs of the table.
 pub record WorkedRuns : Type 0 where
-  pub number : length workedRuns ≡ 13
+  pub number : length workedRuns ≡ 14
   pub asWorked : AsWorked workedRuns
   -- case 7 without its idle line is case 1, and the line of case 1 is not idle
   pub idleTakenOut : withoutIdle idleBesides ≡ afterOneCommit

@@ -1,5 +1,5 @@
 -- Runs worked out by hand (document 01, 'Worked runs', cases 1 to 9; 'The result', last paragraph, for the rounds that qualify for settling; document 02,
--- Paper 2, for what each process sent).
+-- Papers 2 and 4, for what counts of what each process sent).
 -- Cases 1 to 12 as texts, with their results and refusals, are in crate formats.
 use mathlib.Core.List.{List, [], _∷_}
 use Prim.Native.Nat.{ℕ}
@@ -15,10 +15,10 @@ pub record WorkedRun : Type 0 where
   pub ends : List State
   -- the last line of the result: the rounds, f, the speakers, the data and the commit messages
   pub counts : List ℕ
-  -- the data messages that each process sent, and the commit messages
+  -- the data messages that each process sent and that count, and the commit messages
   pub dataBy : List ℕ
   pub commitsBy : List ℕ
-  -- the last round in which one may decide, f + 1, and the most messages that so many speakers may send
+  -- the last round in which one may decide, f + 1, the most messages that so many speakers may send, and the most commits
   pub limits : List ℕ
   -- the rounds that qualify for settling
   pub settling : List ℕ
@@ -32,49 +32,49 @@ row x ends counts dataBy commitsBy limits settling =
 abbrev pub case1 : WorkedRun
 case1 =
     row afterOneCommit case1Ends
-    (2 ∷ 1 ∷ 2 ∷ 5 ∷ 3 ∷ []) (3 ∷ 2 ∷ 0 ∷ 0 ∷ []) (1 ∷ 2 ∷ 0 ∷ 0 ∷ []) (2 ∷ 9 ∷ []) (1 ∷ 2 ∷ [])
+    (2 ∷ 1 ∷ 2 ∷ 4 ∷ 2 ∷ []) (3 ∷ 1 ∷ 0 ∷ 0 ∷ []) (1 ∷ 1 ∷ 0 ∷ 0 ∷ []) (2 ∷ 9 ∷ 2 ∷ []) (1 ∷ 2 ∷ [])
 
 -- Case 2: one process.
 abbrev pub case2 : WorkedRun
 case2 =
     row (record { processes = 1; resilience = 0; proposals = 10 ∷ []; pattern = correct ∷ [] }) (decided 1 10 ∷ [])
-    (1 ∷ 0 ∷ 1 ∷ 0 ∷ 0 ∷ []) (0 ∷ []) (0 ∷ []) (1 ∷ 0 ∷ []) (1 ∷ [])
+    (1 ∷ 0 ∷ 1 ∷ 0 ∷ 0 ∷ []) (0 ∷ []) (0 ∷ []) (1 ∷ 0 ∷ 0 ∷ []) (1 ∷ [])
 
 -- Case 3: process 1 crashes after all its commits, and does not decide.
 abbrev pub case3 : WorkedRun
 case3 =
     row (firstCrashes (duringCommits 3)) (crashed 1 ∷ decided 1 10 ∷ decided 1 10 ∷ decided 1 10 ∷ [])
-    (1 ∷ 1 ∷ 1 ∷ 3 ∷ 3 ∷ []) (3 ∷ 0 ∷ 0 ∷ 0 ∷ []) (3 ∷ 0 ∷ 0 ∷ 0 ∷ []) (2 ∷ 6 ∷ []) (1 ∷ [])
+    (1 ∷ 1 ∷ 1 ∷ 3 ∷ 3 ∷ []) (3 ∷ 0 ∷ 0 ∷ 0 ∷ []) (3 ∷ 0 ∷ 0 ∷ 0 ∷ []) (2 ∷ 6 ∷ 3 ∷ []) (1 ∷ [])
 
 -- Case 4: process 1 crashes while sending data, which reaches process 2 alone.
 abbrev pub case4 : WorkedRun
 case4 =
     row (firstCrashes (duringData 2)) (crashed 1 ∷ decided 2 10 ∷ decided 2 10 ∷ decided 2 10 ∷ [])
-    (2 ∷ 1 ∷ 2 ∷ 3 ∷ 2 ∷ []) (1 ∷ 2 ∷ 0 ∷ 0 ∷ []) (0 ∷ 2 ∷ 0 ∷ 0 ∷ []) (2 ∷ 9 ∷ []) (2 ∷ [])
+    (2 ∷ 1 ∷ 2 ∷ 3 ∷ 2 ∷ []) (1 ∷ 2 ∷ 0 ∷ 0 ∷ []) (0 ∷ 2 ∷ 0 ∷ 0 ∷ []) (2 ∷ 9 ∷ 2 ∷ []) (2 ∷ [])
 
 -- Case 5: the same, and it reaches process 4 alone.
 abbrev pub case5 : WorkedRun
 case5 =
     row dataToTheLast (crashed 1 ∷ decided 2 20 ∷ decided 2 20 ∷ decided 2 20 ∷ [])
-    (2 ∷ 1 ∷ 2 ∷ 3 ∷ 2 ∷ []) (1 ∷ 2 ∷ 0 ∷ 0 ∷ []) (0 ∷ 2 ∷ 0 ∷ 0 ∷ []) (2 ∷ 9 ∷ []) (2 ∷ [])
+    (2 ∷ 1 ∷ 2 ∷ 3 ∷ 2 ∷ []) (1 ∷ 2 ∷ 0 ∷ 0 ∷ []) (0 ∷ 2 ∷ 0 ∷ 0 ∷ []) (2 ∷ 9 ∷ 2 ∷ []) (2 ∷ [])
 
 -- Case 6: processes 1 and 2 crash before sending in round 1.
 abbrev pub case6 : WorkedRun
 case6 =
     row (four (crashes 1 beforeSending ∷ crashes 1 beforeSending ∷ correct ∷ correct ∷ [])) (crashed 1 ∷ crashed 1 ∷ decided 3 30 ∷ decided 3 30 ∷ [])
-    (3 ∷ 2 ∷ 2 ∷ 1 ∷ 1 ∷ []) (0 ∷ 0 ∷ 1 ∷ 0 ∷ []) (0 ∷ 0 ∷ 1 ∷ 0 ∷ []) (3 ∷ 9 ∷ []) (3 ∷ [])
+    (3 ∷ 2 ∷ 2 ∷ 1 ∷ 1 ∷ []) (0 ∷ 0 ∷ 1 ∷ 0 ∷ []) (0 ∷ 0 ∷ 1 ∷ 0 ∷ []) (3 ∷ 9 ∷ 2 ∷ []) (3 ∷ [])
 
 -- Case 7: case 1 with a line of process 4, which is idle.
 abbrev pub case7 : WorkedRun
 case7 =
     row idleBesides case1Ends
-    (2 ∷ 1 ∷ 2 ∷ 5 ∷ 3 ∷ []) (3 ∷ 2 ∷ 0 ∷ 0 ∷ []) (1 ∷ 2 ∷ 0 ∷ 0 ∷ []) (2 ∷ 9 ∷ []) (1 ∷ 2 ∷ [])
+    (2 ∷ 1 ∷ 2 ∷ 4 ∷ 2 ∷ []) (3 ∷ 1 ∷ 0 ∷ 0 ∷ []) (1 ∷ 1 ∷ 0 ∷ 0 ∷ []) (2 ∷ 9 ∷ 2 ∷ []) (1 ∷ 2 ∷ [])
 
 -- Case 8: only a line of process 3, which is idle.
 abbrev pub case8 : WorkedRun
 case8 =
     row idleAlone case8Ends
-    (1 ∷ 0 ∷ 1 ∷ 3 ∷ 3 ∷ []) (3 ∷ 0 ∷ 0 ∷ 0 ∷ []) (3 ∷ 0 ∷ 0 ∷ 0 ∷ []) (1 ∷ 6 ∷ []) (1 ∷ [])
+    (1 ∷ 0 ∷ 1 ∷ 3 ∷ 3 ∷ []) (3 ∷ 0 ∷ 0 ∷ 0 ∷ []) (3 ∷ 0 ∷ 0 ∷ 0 ∷ []) (1 ∷ 6 ∷ 3 ∷ []) (1 ∷ [])
 
 -- The instance of case 9, and how its processes end.
 abbrev pub tenProcesses : Instance
@@ -92,12 +92,13 @@ tenProcesses =
 abbrev pub nineCrashed : List State
 nineCrashed = crashed 1 ∷ crashed 2 ∷ crashed 3 ∷ crashed 4 ∷ crashed 5 ∷ crashed 6 ∷ crashed 7 ∷ crashed 1 ∷ crashed 1 ∷ decided 1 10 ∷ []
 
--- Case 9: processes 8 and 9 get no commit, for they crash in round 1, and none gets it in their place; the bound on messages is met.
+-- Case 9: processes 8 and 9 get no commit, for they crash in round 1, and none gets it in their place; the commits to them count in round 1 alone. The
+-- bound on commits is met.
 abbrev pub case9 : WorkedRun
 case9 =
-    row tenProcesses nineCrashed (7 ∷ 9 ∷ 7 ∷ 42 ∷ 21 ∷ [])
-    (9 ∷ 8 ∷ 7 ∷ 6 ∷ 5 ∷ 4 ∷ 3 ∷ 0 ∷ 0 ∷ 0 ∷ []) (3 ∷ 3 ∷ 3 ∷ 3 ∷ 3 ∷ 3 ∷ 3 ∷ 0 ∷ 0 ∷ 0 ∷ [])
-    (10 ∷ 63 ∷ []) (1 ∷ 2 ∷ 3 ∷ 4 ∷ 5 ∷ 6 ∷ 7 ∷ [])
+    row tenProcesses nineCrashed (7 ∷ 9 ∷ 7 ∷ 24 ∷ 3 ∷ [])
+    (9 ∷ 5 ∷ 4 ∷ 3 ∷ 2 ∷ 1 ∷ 0 ∷ 0 ∷ 0 ∷ 0 ∷ []) (3 ∷ 0 ∷ 0 ∷ 0 ∷ 0 ∷ 0 ∷ 0 ∷ 0 ∷ 0 ∷ 0 ∷ [])
+    (10 ∷ 63 ∷ 3 ∷ []) (1 ∷ 2 ∷ 3 ∷ 4 ∷ 5 ∷ 6 ∷ 7 ∷ [])
 
 -- Process 2 is up in round 1 and crashed in round 2: so round 2 qualifies, and round 1 does not.
 abbrev pub crashesLater : WorkedRun
@@ -105,7 +106,7 @@ crashesLater =
     row
     (record { processes = 3; resilience = 2; proposals = 10 ∷ 20 ∷ 30 ∷ []; pattern = crashes 1 beforeSending ∷ crashes 2 beforeSending ∷ correct ∷ [] })
     (crashed 1 ∷ crashed 2 ∷ decided 3 30 ∷ [])
-    (3 ∷ 2 ∷ 3 ∷ 0 ∷ 0 ∷ []) (0 ∷ 0 ∷ 0 ∷ []) (0 ∷ 0 ∷ 0 ∷ []) (3 ∷ 3 ∷ []) (2 ∷ 3 ∷ [])
+    (3 ∷ 2 ∷ 3 ∷ 0 ∷ 0 ∷ []) (0 ∷ 0 ∷ 0 ∷ []) (0 ∷ 0 ∷ 0 ∷ []) (3 ∷ 3 ∷ 0 ∷ []) (2 ∷ 3 ∷ [])
 
 -- The last round is silent: its coordinator crashed in round 1, and the one process that waits crashes in it.
 abbrev pub silentAtLast : WorkedRun
@@ -118,21 +119,36 @@ silentAtLast =
       pattern = crashes 1 (duringCommits 1) ∷ crashes 1 beforeSending ∷ crashes 2 beforeSending ∷ correct ∷ [];
     })
     (crashed 1 ∷ crashed 1 ∷ crashed 2 ∷ decided 1 10 ∷ [])
-    (2 ∷ 3 ∷ 1 ∷ 3 ∷ 1 ∷ []) (3 ∷ 0 ∷ 0 ∷ 0 ∷ []) (1 ∷ 0 ∷ 0 ∷ 0 ∷ []) (4 ∷ 6 ∷ []) (1 ∷ 2 ∷ [])
+    (2 ∷ 3 ∷ 1 ∷ 3 ∷ 1 ∷ []) (3 ∷ 0 ∷ 0 ∷ 0 ∷ []) (1 ∷ 0 ∷ 0 ∷ 0 ∷ []) (4 ∷ 6 ∷ 3 ∷ []) (1 ∷ 2 ∷ [])
 
 -- All data leave, and no commit does.
 abbrev pub noCommit : WorkedRun
 noCommit =
     row (firstCrashes (duringCommits 0)) (crashed 1 ∷ decided 2 10 ∷ decided 2 10 ∷ decided 2 10 ∷ [])
-    (2 ∷ 1 ∷ 2 ∷ 5 ∷ 2 ∷ []) (3 ∷ 2 ∷ 0 ∷ 0 ∷ []) (0 ∷ 2 ∷ 0 ∷ 0 ∷ []) (2 ∷ 9 ∷ []) (1 ∷ 2 ∷ [])
+    (2 ∷ 1 ∷ 2 ∷ 5 ∷ 2 ∷ []) (3 ∷ 2 ∷ 0 ∷ 0 ∷ []) (0 ∷ 2 ∷ 0 ∷ 0 ∷ []) (2 ∷ 9 ∷ 2 ∷ []) (1 ∷ 2 ∷ [])
 
 -- The data reach processes 2 and 3, so that process 4 alone holds another value.
 abbrev pub twoReached : WorkedRun
 twoReached =
     row (firstCrashes (duringData 6)) (crashed 1 ∷ decided 2 10 ∷ decided 2 10 ∷ decided 2 10 ∷ [])
-    (2 ∷ 1 ∷ 2 ∷ 4 ∷ 2 ∷ []) (2 ∷ 2 ∷ 0 ∷ 0 ∷ []) (0 ∷ 2 ∷ 0 ∷ 0 ∷ []) (2 ∷ 9 ∷ []) (2 ∷ [])
+    (2 ∷ 1 ∷ 2 ∷ 4 ∷ 2 ∷ []) (2 ∷ 2 ∷ 0 ∷ 0 ∷ []) (0 ∷ 2 ∷ 0 ∷ 0 ∷ []) (2 ∷ 9 ∷ 2 ∷ []) (2 ∷ [])
+
+-- Of the data of process 2, which reach processes 3 to 6, two messages count: process 6 has decided, process 5 crashed in round 1, and process 4, which
+-- crashes in this very round, began it up and undecided. Of process 3 none counts, for all above it have ended.
+abbrev pub twoDropped : WorkedRun
+twoDropped =
+    row
+    (record {
+      processes = 6;
+      resilience = 4;
+      proposals = 10 ∷ 20 ∷ 30 ∷ 40 ∷ 50 ∷ 60 ∷ [];
+      pattern = crashes 1 (duringCommits 1) ∷ crashes 2 (duringData 60) ∷ correct ∷ crashes 2 beforeSending ∷ crashes 1 beforeSending ∷ correct ∷ [];
+    })
+    (crashed 1 ∷ crashed 2 ∷ decided 3 10 ∷ crashed 2 ∷ crashed 1 ∷ decided 1 10 ∷ [])
+    (3 ∷ 4 ∷ 3 ∷ 7 ∷ 1 ∷ []) (5 ∷ 2 ∷ 0 ∷ 0 ∷ 0 ∷ 0 ∷ []) (1 ∷ 0 ∷ 0 ∷ 0 ∷ 0 ∷ 0 ∷ []) (5 ∷ 21 ∷ 3 ∷ []) (1 ∷ 2 ∷ 3 ∷ [])
 
 -- All of them.
 unfoldable pub workedRuns : List WorkedRun
 workedRuns =
-    case1 ∷ case2 ∷ case3 ∷ case4 ∷ case5 ∷ case6 ∷ case7 ∷ case8 ∷ case9 ∷ crashesLater ∷ silentAtLast ∷ noCommit ∷ twoReached ∷ []
+    case1 ∷ case2 ∷ case3 ∷ case4 ∷ case5 ∷ case6 ∷ case7 ∷ case8 ∷ case9 ∷ crashesLater ∷ silentAtLast ∷ noCommit ∷ twoReached
+    ∷ twoDropped ∷ []

@@ -4,26 +4,26 @@ use mathlib.Core.Path.{_≡_, refl, sym, ap, _∙_}
 use mathlib.Core.Bool.{Bool, true, false, cond}
 use Prim.Native.Nat.{ℕ, _-_, _≤_}
 use native.Mathlib.Omega.{arith}
+use lib.Bits.{bitAnd, and-le-l}
 use lib.Dec.{eqb}
 use lib.ListN.{length, getD}
-use borrow.Author.Tests.{eqb-true, le-ltb}
-use Rattle.general.specs.Bits.{member, membersTo, setOf}
-use Rattle.general.specs.Indexed.{countFrom}
+use borrow.Author.Tests.{eqb-true}
+use Rattle.general.specs.Bits.{member, ones64, membersTo, setOf}
 use Rattle.general.proofs.Bits.{ones64-members}
 use Rattle.general.proofs.Indexed.{length-mapFrom}
-use Rattle.general.proofs.Sets.{member-set, set-size}
+use Rattle.general.proofs.Sets.{member-set}
 use Rattle.general.proofs.Tests.{cond-le}
-use Rattle.coordinator.specs.Message.{Reach, none, nothing, arriving, getsData, getsCommit}
+use Rattle.coordinator.specs.Message.{Reach, nothing, arriving, getsData, getsCommit}
 use Rattle.coordinator.specs.Transition.{sends}
 use Rattle.consensus.specs.Instance.{Instance, Fault, faultOf}
 use Rattle.coordinator.specs.Delivery.{reach}
 use Rattle.consensus.specs.State.{State, stateOf, crashesIn}
 use Rattle.coordinator.specs.Round.{received, statesAfter}
 use Rattle.coordinator.specs.Undecided.{isUndecided}
-use Rattle.coordinator.specs.Count.{speaks, dataIn, commitsIn}
-use Rattle.coordinator.specs.CountsReached.{reachedIn, CountedAsReached}
+use Rattle.coordinator.specs.Count.{speaks, carriedIn, dataIn, commitsIn}
 use Rattle.coordinator.specs.Run.{withRound}
-use Rattle.coordinator.proofs.CountsReached.{counts-reached}
+use Rattle.coordinator.proofs.SentSets.{none-to-itself}
+use Rattle.coordinator.proofs.Carried.{carried-size}
 use Rattle.coordinator.proofs.Pointwise.{receivedIn, states-ext, round-state}
 use Rattle.tables.specs.declared.RunTable.{RunTable}
 use Rattle.tables.specs.RunOfTable.{statesIn, runOver, runFrom}
@@ -34,17 +34,14 @@ use Rattle.coordinator_round.specs.Round.{RoundAllowed, RoundOf, RoundRu
 use Rattle.coordinator_round.proofs.Becoming.{undecided-end, sent-by-end, becomes}
 use Rattle.coordinator_round.proofs.Stored.{Sized, Stored, sized-next, waits-as, state-after, kept-after}
 
--- The size of a set that is empty unless the coordinator speaks: so many of a list of n pass the test.
-size-if : (b : Bool) (n : ℕ) (test : ℕ → Bool) (l : List State) → length l ≡ n → n ≤ 64
-    → length (membersTo 64 (cond b (setOf n test) 0)) ≡ cond b (countFrom (λ p s. test p) 1 l) 0
+-- The number of members that a set, empty unless the coordinator speaks, has in common with another.
+size-if : (b : Bool) (set other : ℕ) → length (membersTo 64 (bitAnd (cond b set 0) other)) ≡ cond b (ones64 (bitAnd set other)) 0
 unfolding membersTo member
-size-if true n test l as-many small = sym (ones64-members (setOf n test)) ∙ set-size n test l as-many small
-size-if false n test l as-many small = refl
-
--- No message goes to the coordinator itself.
-none-to-itself : (n r p : ℕ) (fault : Fault) → eqb p r ≡ true → reach n fault r p ≡ none
-unfolding reach
-none-to-itself n r p fault e = let same : p ≡ r = eqb-true p r e in let below : p ≤ r = omega arith in rw (le-ltb r p below)
+size-if true set other = sym (ones64-members (bitAnd set other))
+size-if false set other = ap (λ (k : ℕ). length (membersTo 64 k)) (none-with other)
+  where
+    none-with : (other : ℕ) → bitAnd 0 other ≡ 0
+    none-with other = omega (arith, and-le-l 0 other)
 
 module _ (n r : ℕ) (fault : Fault) (faulty : ℕ) (run next : RunTable) (sized : Sized run) (allowed : RoundAllowed n r fault faulty run)
     (stored : Stored r (sendingBy n r fault (member r (run .undecided))) faulty run next (cond (member r (run .undecided)) 1 0)) where
@@ -94,23 +91,19 @@ module _ (n r : ℕ) (fault : Fault) (faulty : ℕ) (run next : RunTable) (sized
         in
         states-ext n (statesIn n next) _ (length-states-over n _ _ _ entries-next) (length-mapFrom _ 1 states ∙ as-many) state-as
 
-    -- The messages counted are those that reach a process, of either kind.
-    counted-as : (counted : Instance → ℕ → List State → ℕ) (gets : Reach → Bool) → CountedAsReached counted gets x
-        → length (membersTo 64 (cond (member r (run .undecided)) (setOf n (λ p. gets (reach n fault r p))) 0)) ≡ counted x r states
-    unfolding CountedAsReached reachedIn
-    counted-as counted gets as-reached =
-        let last : r ≤ x .processes = rw (of .processes) (allowed .sender .last) in
-        size-if (member r (run .undecided)) n _ states as-many (allowed .sender .at-most-64)
-        ∙ sym (as-reached r states (allowed .sender .first) last (as-many ∙ sym (of .processes)) ∙ rw (of .coordinator, of .processes, ← speaker))
+    -- The messages counted are those that reach a process up and undecided, of either kind.
+    counted-as : (gets : Reach → Bool)
+        → length (membersTo 64 (bitAnd (cond (member r (run .undecided)) (setOf n (λ p. gets (reach n fault r p))) 0) (run .undecided)))
+        ≡ carriedIn gets x r states
+    counted-as gets =
+        let counted = carried-size gets x r states (as-many ∙ sym (of .processes)) (rw (of .processes) (allowed .sender .at-most-64)) in
+        size-if (member r (run .undecided)) _ (run .undecided) ∙ rw (speaker, allowed .kept) (sym (counted ∙ rw (of .coordinator, of .processes)))
 
     round-as : runFrom n next ≡ withRound x r (runFrom n run)
-    unfolding runOver withRound sendingBy
+    unfolding runOver withRound dataIn commitsIn sendingBy
     round-as =
-        let reached = counts-reached x (of .well-formed) in
-        let data-sent = counted-as dataIn getsData (reached .dataOfRound) in
-        let commits-sent = counted-as commitsIn getsCommit (reached .commitsOfRound) in
         rw (states-as, stored .rounds, stored .speakers-added, stored .data-added, stored .commits-added)
-        (rw (allowed .some-undecided, data-sent, commits-sent, speaker))
+        (rw (allowed .some-undecided, counted-as getsData, counted-as getsCommit, speaker))
 
   pub round-done : RoundRun n r fault faulty run next
   round-done = record { kept = kept-after n r fault faulty run next _ sized allowed stored; round = round-as }

@@ -46,8 +46,8 @@ pub record Stored (r : ℕ) (sent : Sent) (faulty : ℕ) (run next : RunTable) (
   pub values : next .values ≡ filled (bitAnd (stayingIn (run .undecided) faulty) (sent .reached)) (getD (run .values) (r - 1) 0) (run .values)
   pub rounds : next .rounds ≡ r
   pub speakers-added : next .speakers ≡ run .speakers + speakers
-  pub data-added : next .«data_sent» ≡ run .«data_sent» + length (membersTo 64 (sent .reached))
-  pub commits-added : next .«commits_sent» ≡ run .«commits_sent» + length (membersTo 64 (sent .committed))
+  pub data-added : next .«data_sent» ≡ run .«data_sent» + length (membersTo 64 (bitAnd (sent .reached) (run .undecided)))
+  pub commits-added : next .«commits_sent» ≡ run .«commits_sent» + length (membersTo 64 (bitAnd (sent .committed) (run .undecided)))
   pub undecided : next .undecided ≡ bitXor (stayingIn (run .undecided) faulty) (decidingIn (run .undecided) faulty sent)
 
 -- The members of a set that is empty unless someone speaks.

@@ -4,17 +4,18 @@ use Prim.Native.Nat.{ℕ, _<_}
 use mathlib.Core.Bool.{true}
 use Rattle.general.specs.Bits.{setOf}
 use Rattle.consensus.specs.Instance.{Instance, Fault, faultOf}
-use Rattle.consensus.specs.State.{stateOf, crashesIn}
-use Rattle.coordinator.specs.Undecided.{isUndecided, anyUndecided}
+use Rattle.consensus.specs.State.{crashesIn}
+use Rattle.coordinator.specs.Undecided.{anyUndecided}
 use Rattle.coordinator.specs.Run.{withRound}
 use Rattle.coordinator.specs.WellFormed.{WellFormed}
+use Rattle.coordinator.specs.CountsBySets.{undecidedAmong}
 use Rattle.tables.specs.declared.RunTable.{RunTable}
 use Rattle.tables.specs.RunOfTable.{statesIn, runFrom}
 use Rattle.coordinator_sending.specs.Sending.{SendingAllowed}
 
 -- The set of the processes up and undecided, by the arrays of a table.
 abbrev pub undecidedSet : ℕ → RunTable → ℕ
-undecidedSet n run = setOf n (λ p. isUndecided (stateOf (statesIn n run) p))
+undecidedSet n run = undecidedAmong n (statesIn n run)
 
 -- Of a well-formed instance these are n, the fault of round r's coordinator and the set of the processes whose crash round is r.
 pub record RoundOf (x : Instance) (n r : ℕ) (fault : Fault) (faulty : ℕ) : Type 0 where

@@ -4,7 +4,8 @@ ghost use Rattle.coordinator_round.specs.Round.{RoundAllowed, RoundRun};
 use coordinator_sending::count;
 use tables::RunTable;
 
-// Round r of n processes, which begins with a process up and undecided: the run as it begins, to the run as it ends, with its message counts.
+// Round r of n processes, which begins with a process up and undecided: the run as it begins, to the run as it ends, with its message counts. A message
+// counts if its addressee began the round up and undecided (document 02, Paper 4).
 // The numbers are those of the coordinator's fault, and `faulty` is the set of the processes whose crash round is r.
 pub fn run_round(
     n: u8,
@@ -27,8 +28,8 @@ pub fn run_round(
     let deciding = staying & (sent.coordinator | sent.committed);
     next.rounds = r;
     next.speakers += count::speakers_in(r, next.undecided);
-    next.data_sent += sets::size(sent.reached) as u16;
-    next.commits_sent += sets::size(sent.committed) as u16;
+    next.data_sent += sets::size(sent.reached & next.undecided) as u16;
+    next.commits_sent += sets::size(sent.committed & next.undecided) as u16;
     sets::fill_words(&mut next.values, staying & sent.reached, value);
     sets::fill_bytes(&mut next.ends, deciding, tables::DECIDED);
     sets::fill_bytes(&mut next.ends, crashing, tables::CRASHED);

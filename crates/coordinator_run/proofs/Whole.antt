@@ -24,7 +24,8 @@ use Rattle.coordinator.specs.WellFormed.{PointAllowed, WellFormed}
 use Rattle.coordinator.proofs.Pointwise.{states-ext, length-states, initial-state}
 use Rattle.coordinator.proofs.Undecided.{none-undecided, not-any}
 use Rattle.coordinator.proofs.Ended.{run-ended}
-use Rattle.coordinator.proofs.Counts.{speakers-le, data-in-le, commits-in-le, data-sent-le, commits-sent-le}
+use Rattle.coordinator.proofs.Carried.{data-in-le, commits-in-le}
+use Rattle.coordinator.proofs.Counts.{speakers-le, data-sent-le, commits-sent-le}
 use Rattle.coordinator.proofs.MessagesBySender.{data-silent, commits-silent, sent-round, length-sent, count-sent, sent-ended}
 use Rattle.tables.specs.declared.InstanceTable.{InstanceTable}
 use Rattle.tables.specs.declared.RunTable.{RunTable}
@@ -207,16 +208,16 @@ module _ (x : InstanceTable) (last : ℕ) (faulty : List ℕ) (run : RunTable) (
     data-added =
         let after : next .«data_sent» ≡ runTo (instanceOf x) (r - 1) .dataSent + dataHere = ap (λ (known : Run). known .dataSent) next-run in
         let before : run .«data_sent» ≡ runTo (instanceOf x) (r - 1) .dataSent = ap (λ (known : Run). known .dataSent) (now .so-far .run) in
-        let few = data-in-le (instanceOf x) (now .well-formed) r (runTo (instanceOf x) (r - 1) .states) (now .first) inside in
-        (omega (arith, after, before), omega (arith, few, now .well-formed .at-most-64))
+        let few = data-in-le (instanceOf x) r (runTo (instanceOf x) (r - 1) .states) in
+        (omega (arith, after, before), omega (arith, few, length-states (instanceOf x) (r - 1), now .well-formed .all-propose, now .well-formed .at-most-64))
 
     pub commits-added : (next .«commits_sent» ≡ run .«commits_sent» + commitsHere) × (commitsHere < 256)
     unfolding runOver withRound
     commits-added =
         let after : next .«commits_sent» ≡ runTo (instanceOf x) (r - 1) .commitsSent + commitsHere = ap (λ (known : Run). known .commitsSent) next-run in
         let before : run .«commits_sent» ≡ runTo (instanceOf x) (r - 1) .commitsSent = ap (λ (known : Run). known .commitsSent) (now .so-far .run) in
-        let few = commits-in-le (instanceOf x) (now .well-formed) r (runTo (instanceOf x) (r - 1) .states) (now .first) inside in
-        (omega (arith, after, before), omega (arith, few, now .well-formed .at-most-64))
+        let few = commits-in-le (instanceOf x) r (runTo (instanceOf x) (r - 1) .states) in
+        (omega (arith, after, before), omega (arith, few, length-states (instanceOf x) (r - 1), now .well-formed .all-propose, now .well-formed .at-most-64))
 
     -- Stored for the round's coordinator, which had sent none, it is what that process has sent.
     kept-next : (counted : Instance → ℕ → List State → ℕ) (counts : List ℕ) → take (x .n) counts ≡ sentAfter counted (instanceOf x) (r - 1) → (d : ℕ)

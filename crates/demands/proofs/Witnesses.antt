@@ -4,24 +4,23 @@ use mathlib.Core.Option.{none}
 use mathlib.Core.Path.{_≡_, refl}
 use Prim.Native.Nat.{ℕ, zero, suc, _-_}
 use native.Mathlib.Omega.{arith}
-use lib.Count.{onesIn}
 use lib.ListN.{replicate, getD}
-use Rattle.general.specs.Bits.{member, ones64}
+use Rattle.general.specs.Bits.{member}
 use Rattle.general.specs.BigEndian.{number, numberFrom, bytesOf}
-use Rattle.general.specs.Indexed.{mapFrom}
+use Rattle.general.specs.Indexed.{mapFrom, countFrom}
 use Rattle.general.specs.Counts.{countOf, addAt}
 use Rattle.general.specs.Text.{ascii}
 use Rattle.consensus.specs.Instance.{Instance, Fault, correct, crashes, duringCommits, pointFrom, faultOf, withinLimits}
 use Rattle.consensus.specs.Consensus.{Decides}
 use Rattle.consensus.specs.FourProcesses.{four}
 use Rattle.coordinator.specs.Pairing.{LinePaired, same, moreCommits, missing, Paired}
-use Rattle.coordinator.specs.Message.{arriving}
+use Rattle.coordinator.specs.Message.{arriving, getsData, getsCommit}
 use Rattle.coordinator.specs.Transition.{sends, receives}
 use Rattle.coordinator.specs.Delivery.{amongFirst, reachAt, reachIn, reach}
 use Rattle.consensus.specs.State.{stateOf, crashesIn}
 use Rattle.coordinator.specs.Round.{sentBy, received, afterOutcome, after, statesAfter}
 use Rattle.coordinator.specs.Undecided.{isUndecided, anyUndecided}
-use Rattle.coordinator.specs.Count.{dataAt, commitsAt, countIn, speaks, dataIn, commitsIn}
+use Rattle.coordinator.specs.Count.{speaks, carries, carriedIn, dataIn, commitsIn}
 use Rattle.consensus.specs.CrashCount.{isIdle, countsAsCrash, crashCount}
 use Rattle.coordinator.specs.Run.{initial, withRound, runTo, runOf, crashesOf, endOf}
 use Rattle.coordinator.specs.MessagesBySender.{sentAfter, dataBy, commitsBy}
@@ -92,7 +91,7 @@ texts-read = (refl, refl, refl)
 
 -- In each of them process 2 decides 10, in the first a round later than in the others.
 second-decides : Decides crash (endOf crash) 2 2 10 × Decides allCommits (endOf allCommits) 2 1 10 × Decides noCrash (endOf noCrash) 2 1 10
-unfolding four endOf onesIn member ones64 mapFrom faultOf arriving sends receives amongFirst reachAt reachIn reach stateOf crashesIn sentBy received afterOutcome after statesAfter isUndecided anyUndecided dataAt commitsAt countIn speaks dataIn commitsIn initial withRound runTo runOf
+unfolding four endOf member mapFrom faultOf arriving getsData getsCommit sends receives amongFirst reachAt reachIn reach stateOf crashesIn sentBy received afterOutcome after statesAfter isUndecided anyUndecided speaks carries carriedIn dataIn commitsIn initial withRound runTo runOf
 second-decides =
     (record { process = omega arith; state = refl }, record { process = omega arith; state = refl }, record { process = omega arith; state = refl })
 
@@ -120,7 +119,7 @@ line-missing =
 
 -- The buffer of 120 bytes holds the result and, behind it, what stood there.
 written : RunMet crashText 101
-unfolding answerOf runCode running resultIn bufferAfter resultText resultLines joined lineBy processLines lastLine processLine endBytes resultSize hexLine hexDigits digitOf crashText moreCommitsText noCrashText opening textOf ascii onesIn member ones64 number numberFrom bytesOf mapFrom countOf addAt pointFrom faultOf withinLimits arriving sends receives amongFirst reachAt reachIn reach stateOf crashesIn sentBy received afterOutcome after statesAfter isUndecided anyUndecided dataAt commitsAt countIn speaks dataIn commitsIn isIdle countsAsCrash crashCount initial withRound runTo runOf sentAfter dataBy commitsBy crashesOf digitValue isDigit scan closed unclosed linesFrom linesOf proceed readFrom isKind headerSays afterProposal proposalSays failureLine placesCrash allBetween suitsStep crashSays failureSays lineSays unproposed withProposal withCrash begin store accept atEnd readTicket
+unfolding answerOf runCode running resultIn bufferAfter resultText resultLines joined lineBy processLines lastLine processLine endBytes resultSize hexLine hexDigits digitOf crashText moreCommitsText noCrashText opening textOf ascii member number numberFrom bytesOf mapFrom countFrom countOf addAt pointFrom faultOf withinLimits arriving getsData getsCommit sends receives amongFirst reachAt reachIn reach stateOf crashesIn sentBy received afterOutcome after statesAfter isUndecided anyUndecided speaks carries carriedIn dataIn commitsIn isIdle countsAsCrash crashCount initial withRound runTo runOf sentAfter dataBy commitsBy crashesOf digitValue isDigit scan closed unclosed linesFrom linesOf proceed readFrom isKind headerSays afterProposal proposalSays failureLine placesCrash allBetween suitsStep crashSays failureSays lineSays unproposed withProposal withCrash begin store accept atEnd readTicket
 written =
     record {
       before = replicate 120 165;
@@ -136,17 +135,17 @@ written-mixed = run-met-alike crashText mixedText (lettering-cases .acceptedText
 
 -- Its lines are those of case 1.
 crash-wrote : Wrote crashText crash (textOf (case1 .output))
-unfolding answerOf runCode running resultIn bufferAfter resultText resultLines joined lineBy processLines lastLine processLine endBytes resultSize hexLine hexDigits digitOf crashText moreCommitsText noCrashText opening textOf ascii onesIn member ones64 number numberFrom bytesOf mapFrom countOf addAt pointFrom faultOf withinLimits arriving sends receives amongFirst reachAt reachIn reach stateOf crashesIn sentBy received afterOutcome after statesAfter isUndecided anyUndecided dataAt commitsAt countIn speaks dataIn commitsIn isIdle countsAsCrash crashCount initial withRound runTo runOf sentAfter dataBy commitsBy crashesOf digitValue isDigit scan closed unclosed linesFrom linesOf proceed readFrom isKind headerSays afterProposal proposalSays failureLine placesCrash allBetween suitsStep crashSays failureSays lineSays unproposed withProposal withCrash begin store accept atEnd readTicket four
+unfolding answerOf runCode running resultIn bufferAfter resultText resultLines joined lineBy processLines lastLine processLine endBytes resultSize hexLine hexDigits digitOf crashText moreCommitsText noCrashText opening textOf ascii member number numberFrom bytesOf mapFrom countFrom countOf addAt pointFrom faultOf withinLimits arriving getsData getsCommit sends receives amongFirst reachAt reachIn reach stateOf crashesIn sentBy received afterOutcome after statesAfter isUndecided anyUndecided speaks carries carriedIn dataIn commitsIn isIdle countsAsCrash crashCount initial withRound runTo runOf sentAfter dataBy commitsBy crashesOf digitValue isDigit scan closed unclosed linesFrom linesOf proceed readFrom isKind headerSays afterProposal proposalSays failureLine placesCrash allBetween suitsStep crashSays failureSays lineSays unproposed withProposal withCrash begin store accept atEnd readTicket four
 crash-wrote = record { read = texts-read .0; behind = []; front = refl }
 
 -- What its lines say of processes 1 to 5.
-sent-rows : map (sentSaid (textOf (case1 .output))) (1 ∷ 2 ∷ 3 ∷ 4 ∷ 5 ∷ []) ≡ sentAs 3 1 ∷ sentAs 2 2 ∷ sentAs 0 0 ∷ sentAs 0 0 ∷ none ∷ []
-unfolding answerOf runCode running resultIn bufferAfter resultText resultLines joined lineBy processLines lastLine processLine endBytes resultSize hexLine hexDigits digitOf crashText moreCommitsText noCrashText opening textOf ascii onesIn member ones64 number numberFrom bytesOf mapFrom countOf addAt pointFrom faultOf withinLimits arriving sends receives amongFirst reachAt reachIn reach stateOf crashesIn sentBy received afterOutcome after statesAfter isUndecided anyUndecided dataAt commitsAt countIn speaks dataIn commitsIn isIdle countsAsCrash crashCount initial withRound runTo runOf sentAfter dataBy commitsBy crashesOf digitValue isDigit scan closed unclosed linesFrom linesOf proceed readFrom isKind headerSays afterProposal proposalSays failureLine placesCrash allBetween suitsStep crashSays failureSays lineSays unproposed withProposal withCrash begin store accept atEnd readTicket four lineAt isProcessLine sentIn sentFrom sentSaid
+sent-rows : map (sentSaid (textOf (case1 .output))) (1 ∷ 2 ∷ 3 ∷ 4 ∷ 5 ∷ []) ≡ sentAs 3 1 ∷ sentAs 1 1 ∷ sentAs 0 0 ∷ sentAs 0 0 ∷ none ∷ []
+unfolding answerOf runCode running resultIn bufferAfter resultText resultLines joined lineBy processLines lastLine processLine endBytes resultSize hexLine hexDigits digitOf crashText moreCommitsText noCrashText opening textOf ascii member number numberFrom bytesOf mapFrom countFrom countOf addAt pointFrom faultOf withinLimits arriving getsData getsCommit sends receives amongFirst reachAt reachIn reach stateOf crashesIn sentBy received afterOutcome after statesAfter isUndecided anyUndecided speaks carries carriedIn dataIn commitsIn isIdle countsAsCrash crashCount initial withRound runTo runOf sentAfter dataBy commitsBy crashesOf digitValue isDigit scan closed unclosed linesFrom linesOf proceed readFrom isKind headerSays afterProposal proposalSays failureLine placesCrash allBetween suitsStep crashSays failureSays lineSays unproposed withProposal withCrash begin store accept atEnd readTicket four lineAt isProcessLine sentIn sentFrom sentSaid
 sent-rows = refl
 
-sent : SentMet crashText (textOf (case1 .output)) (sentAs 3 1 ∷ sentAs 2 2 ∷ sentAs 0 0 ∷ sentAs 0 0 ∷ none ∷ [])
-    (record { rounds = 2; crashes = 1; speakers = 2; dataSent = 5; commitsSent = 3 })
-unfolding answerOf runCode running resultIn bufferAfter resultText resultLines joined lineBy processLines lastLine processLine endBytes resultSize hexLine hexDigits digitOf crashText moreCommitsText noCrashText opening textOf ascii onesIn member ones64 number numberFrom bytesOf mapFrom countOf addAt pointFrom faultOf withinLimits arriving sends receives amongFirst reachAt reachIn reach stateOf crashesIn sentBy received afterOutcome after statesAfter isUndecided anyUndecided dataAt commitsAt countIn speaks dataIn commitsIn isIdle countsAsCrash crashCount initial withRound runTo runOf sentAfter dataBy commitsBy crashesOf digitValue isDigit scan closed unclosed linesFrom linesOf proceed readFrom isKind headerSays afterProposal proposalSays failureLine placesCrash allBetween suitsStep crashSays failureSays lineSays unproposed withProposal withCrash begin store accept atEnd readTicket four lineAt isProcessLine sentIn sentFrom sentSaid countsOf
+sent : SentMet crashText (textOf (case1 .output)) (sentAs 3 1 ∷ sentAs 1 1 ∷ sentAs 0 0 ∷ sentAs 0 0 ∷ none ∷ [])
+    (record { rounds = 2; crashes = 1; speakers = 2; dataSent = 4; commitsSent = 2 })
+unfolding answerOf runCode running resultIn bufferAfter resultText resultLines joined lineBy processLines lastLine processLine endBytes resultSize hexLine hexDigits digitOf crashText moreCommitsText noCrashText opening textOf ascii member number numberFrom bytesOf mapFrom countFrom countOf addAt pointFrom faultOf withinLimits arriving getsData getsCommit sends receives amongFirst reachAt reachIn reach stateOf crashesIn sentBy received afterOutcome after statesAfter isUndecided anyUndecided speaks carries carriedIn dataIn commitsIn isIdle countsAsCrash crashCount initial withRound runTo runOf sentAfter dataBy commitsBy crashesOf digitValue isDigit scan closed unclosed linesFrom linesOf proceed readFrom isKind headerSays afterProposal proposalSays failureLine placesCrash allBetween suitsStep crashSays failureSays lineSays unproposed withProposal withCrash begin store accept atEnd readTicket four lineAt isProcessLine sentIn sentFrom sentSaid countsOf
 sent =
     record {
       instance = crash;
@@ -157,11 +156,11 @@ sent =
 
 -- 100 bytes are one too few, and 101 just enough.
 short : RunCall crashText (replicate 100 165) (replicate 100 165) (refusalCode 9 0)
-unfolding answerOf runCode running resultIn bufferAfter resultText resultLines joined lineBy processLines lastLine processLine endBytes resultSize hexLine hexDigits digitOf crashText moreCommitsText noCrashText opening textOf ascii onesIn member ones64 number numberFrom bytesOf mapFrom countOf addAt pointFrom faultOf withinLimits arriving sends receives amongFirst reachAt reachIn reach stateOf crashesIn sentBy received afterOutcome after statesAfter isUndecided anyUndecided dataAt commitsAt countIn speaks dataIn commitsIn isIdle countsAsCrash crashCount initial withRound runTo runOf sentAfter dataBy commitsBy crashesOf digitValue isDigit scan closed unclosed linesFrom linesOf proceed readFrom isKind headerSays afterProposal proposalSays failureLine placesCrash allBetween suitsStep crashSays failureSays lineSays unproposed withProposal withCrash begin store accept atEnd readTicket
+unfolding answerOf runCode running resultIn bufferAfter resultText resultLines joined lineBy processLines lastLine processLine endBytes resultSize hexLine hexDigits digitOf crashText moreCommitsText noCrashText opening textOf ascii member number numberFrom bytesOf mapFrom countFrom countOf addAt pointFrom faultOf withinLimits arriving getsData getsCommit sends receives amongFirst reachAt reachIn reach stateOf crashesIn sentBy received afterOutcome after statesAfter isUndecided anyUndecided speaks carries carriedIn dataIn commitsIn isIdle countsAsCrash crashCount initial withRound runTo runOf sentAfter dataBy commitsBy crashesOf digitValue isDigit scan closed unclosed linesFrom linesOf proceed readFrom isKind headerSays afterProposal proposalSays failureLine placesCrash allBetween suitsStep crashSays failureSays lineSays unproposed withProposal withCrash begin store accept atEnd readTicket
 short = record { answered = refl; buffer = refl }
 
 fits : RunCall crashText (replicate 101 165) (textOf (case1 .output)) 101
-unfolding answerOf runCode running resultIn bufferAfter resultText resultLines joined lineBy processLines lastLine processLine endBytes resultSize hexLine hexDigits digitOf crashText moreCommitsText noCrashText opening textOf ascii onesIn member ones64 number numberFrom bytesOf mapFrom countOf addAt pointFrom faultOf withinLimits arriving sends receives amongFirst reachAt reachIn reach stateOf crashesIn sentBy received afterOutcome after statesAfter isUndecided anyUndecided dataAt commitsAt countIn speaks dataIn commitsIn isIdle countsAsCrash crashCount initial withRound runTo runOf sentAfter dataBy commitsBy crashesOf digitValue isDigit scan closed unclosed linesFrom linesOf proceed readFrom isKind headerSays afterProposal proposalSays failureLine placesCrash allBetween suitsStep crashSays failureSays lineSays unproposed withProposal withCrash begin store accept atEnd readTicket
+unfolding answerOf runCode running resultIn bufferAfter resultText resultLines joined lineBy processLines lastLine processLine endBytes resultSize hexLine hexDigits digitOf crashText moreCommitsText noCrashText opening textOf ascii member number numberFrom bytesOf mapFrom countFrom countOf addAt pointFrom faultOf withinLimits arriving getsData getsCommit sends receives amongFirst reachAt reachIn reach stateOf crashesIn sentBy received afterOutcome after statesAfter isUndecided anyUndecided speaks carries carriedIn dataIn commitsIn isIdle countsAsCrash crashCount initial withRound runTo runOf sentAfter dataBy commitsBy crashesOf digitValue isDigit scan closed unclosed linesFrom linesOf proceed readFrom isKind headerSays afterProposal proposalSays failureLine placesCrash allBetween suitsStep crashSays failureSays lineSays unproposed withProposal withCrash begin store accept atEnd readTicket
 fits = record { answered = refl; buffer = refl }
 
 pub witnesses : Witnesses

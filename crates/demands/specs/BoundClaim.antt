@@ -1,11 +1,12 @@
--- The bound by speakers of every accepted text, and of the last line of every result (document 01, 'A round', third paragraph). It is no part of demand 3.
+-- The bound by speakers and that on commits, of every accepted text and of the last line of every result (document 01, 'A round', third paragraph; document
+-- 02, Paper 4: "The bound by speakers must still hold, and line 12's commits are at most n less its speakers"). They are no part of demand 3.
 use mathlib.Core.List.{List}
 use mathlib.Core.Option.{some}
 use mathlib.Core.Path.{_≡_}
 use Prim.Native.Nat.{ℕ, suc, _+_, _≤_}
 use Rattle.consensus.specs.Instance.{Instance}
-use Rattle.coordinator.specs.SpeakerBound.{SpeakerBound, boundBySpeakers}
-use Rattle.coordinator.specs.CountsReached.{CountsReached}
+use Rattle.coordinator.specs.SpeakerBound.{SpeakerBound, boundBySpeakers, commitsBySpeakers}
+use Rattle.coordinator.specs.CountsBySets.{CountsBySets}
 use Rattle.formats.specs.Reading.{accepted}
 use Rattle.formats.specs.Ticket.{readTicket}
 use Rattle.demands.specs.OutputSays.{Counts, countsSaid}
@@ -15,10 +16,11 @@ use Rattle.demands.specs.Written.{Wrote}
 pub record CountsBounded (n : ℕ) (counts : Counts) : Type 0 where
   pub speakers : counts .speakers ≤ suc (counts .crashes)
   pub messages : counts .dataSent + counts .commitsSent ≤ boundBySpeakers n (counts .speakers)
+  pub commits : counts .commitsSent ≤ commitsBySpeakers n (counts .speakers)
 
 pub record BoundClaim : Type 0 where
   pub rounds : (text : List ℕ) (x : Instance) → readTicket text ≡ accepted x → SpeakerBound x
-  -- the messages are as many as the processes that they reach
-  pub reached : (text : List ℕ) (x : Instance) → readTicket text ≡ accepted x → CountsReached x
+  -- the messages of a round are the ones of the set of those to whom they are sent and the undecided
+  pub bySets : (text : List ℕ) (x : Instance) → readTicket text ≡ accepted x → CountsBySets x
   pub said : (text : List ℕ) (x : Instance) (out : List ℕ) (counts : Counts) → Wrote text x out → countsSaid out (x .processes) ≡ some counts
       → CountsBounded (x .processes) counts

@@ -65,8 +65,8 @@ pub record Witnesses : Type 0 where
   pub written : RunMet crashText 101
   pub writtenMixed : RunMet mixedText 101
   -- the last line is no station line
-  pub sent : SentMet crashText (textOf (case1 .output)) (sentAs 3 1 ∷ sentAs 2 2 ∷ sentAs 0 0 ∷ sentAs 0 0 ∷ none ∷ [])
-      (record { rounds = 2; crashes = 1; speakers = 2; dataSent = 5; commitsSent = 3 })
+  pub sent : SentMet crashText (textOf (case1 .output)) (sentAs 3 1 ∷ sentAs 1 1 ∷ sentAs 0 0 ∷ sentAs 0 0 ∷ none ∷ [])
+      (record { rounds = 2; crashes = 1; speakers = 2; dataSent = 4; commitsSent = 2 })
   -- a buffer of 100 bytes is too short for it, and one of 101 is not
   pub short : RunCall crashText (replicate 100 165) (replicate 100 165) (refusalCode 9 0)
   pub fits : RunCall crashText (replicate 101 165) (textOf (case1 .output)) 101

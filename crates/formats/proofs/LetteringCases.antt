@@ -3,15 +3,14 @@ use mathlib.Core.List.{List, [], _∷_}
 use mathlib.Core.Path.{_≡_, refl, ap}
 use Prim.Native.Nat.{ℕ}
 use native.Mathlib.Omega.{arith}
-use lib.Count.{onesIn}
 use lib.ListN.{replicate, getD}
-use Rattle.general.specs.Bits.{member, ones64}
+use Rattle.general.specs.Bits.{member}
 use Rattle.general.specs.BigEndian.{number, numberFrom, bytesOf}
-use Rattle.general.specs.Indexed.{mapFrom}
+use Rattle.general.specs.Indexed.{mapFrom, countFrom}
 use Rattle.general.specs.Counts.{countOf, addAt}
 use Rattle.general.specs.Text.{ascii}
 use Rattle.consensus.specs.Instance.{pointFrom, faultOf, withinLimits}
-use Rattle.coordinator.specs.Message.{arriving}
+use Rattle.coordinator.specs.Message.{arriving, getsData, getsCommit}
 use Rattle.coordinator.specs.Transition.{sends, receives}
 use Rattle.coordinator.specs.Delivery.{amongFirst, reachAt, reachIn, reach}
 use Rattle.consensus.specs.State.{stateOf, crashesIn}
@@ -26,7 +25,7 @@ use Rattle.formats.specs.Says.{isKind, headerSays, afterProposal, propos
 use Rattle.formats.specs.Accept.{unproposed, withProposal, withCrash, begin, store, accept}
 use Rattle.formats.specs.HexText.{digitOf, hexDigits, hexLine}
 use Rattle.coordinator.specs.Settling.{valuesHeld, allAre, oneValue, qualifies}
-use Rattle.coordinator.specs.Count.{dataAt, commitsAt, countIn, speaks, dataIn, commitsIn}
+use Rattle.coordinator.specs.Count.{speaks, carries, carriedIn, dataIn, commitsIn}
 use Rattle.consensus.specs.CrashCount.{isIdle, countsAsCrash, crashCount}
 use Rattle.formats.specs.Reading.{Reading, accepted, refused, proceed, readFrom}
 use Rattle.formats.specs.Ticket.{atEnd, readTicket}
@@ -59,7 +58,7 @@ abbrev buffer : List ℕ
 buffer = replicate 120 165
 
 accepted-texts : TwoLetterings (textOf (case1 .ticket)) (textOf (case1Mixed .ticket)) 101 1
-unfolding EqualUpToCase capital Settles settleCode bufferAfter valuesHeld allAre oneValue qualifies runCode textOf ascii onesIn member ones64 number numberFrom bytesOf mapFrom countOf addAt pointFrom faultOf withinLimits arriving sends receives amongFirst reachAt reachIn reach stateOf crashesIn sentBy received afterOutcome after statesAfter isUndecided anyUndecided dataAt commitsAt countIn speaks dataIn commitsIn isIdle countsAsCrash crashCount initial withRound runTo runOf sentAfter dataBy commitsBy crashesOf digitValue isDigit scan closed unclosed linesFrom linesOf proceed readFrom isKind headerSays afterProposal proposalSays failureLine placesCrash allBetween suitsStep crashSays failureSays lineSays unproposed withProposal withCrash begin store accept atEnd readTicket digitOf hexDigits hexLine endBytes processLine lastLine joined lineBy processLines resultLines resultText resultSize resultIn running
+unfolding EqualUpToCase capital Settles settleCode bufferAfter valuesHeld allAre oneValue qualifies runCode textOf ascii member number numberFrom bytesOf mapFrom countFrom countOf addAt pointFrom faultOf withinLimits arriving getsData getsCommit sends receives amongFirst reachAt reachIn reach stateOf crashesIn sentBy received afterOutcome after statesAfter isUndecided anyUndecided speaks carries carriedIn dataIn commitsIn isIdle countsAsCrash crashCount initial withRound runTo runOf sentAfter dataBy commitsBy crashesOf digitValue isDigit scan closed unclosed linesFrom linesOf proceed readFrom isKind headerSays afterProposal proposalSays failureLine placesCrash allBetween suitsStep crashSays failureSays lineSays unproposed withProposal withCrash begin store accept atEnd readTicket digitOf hexDigits hexLine endBytes processLine lastLine joined lineBy processLines resultLines resultText resultSize resultIn running
 accepted-texts =
     record {
       differ = different (textOf (case1 .ticket)) (textOf (case1Mixed .ticket)) 18 (λ e. omega arith);

@@ -1,18 +1,17 @@
 -- The rounds that qualify in the worked cases, and what case 9 says of the bound (specs/Worked), computed from the tickets. Assumes nothing.
 use mathlib.Core.Path.{refl}
-use lib.Count.{onesIn}
-use Rattle.general.specs.Bits.{member, ones64}
+use Rattle.general.specs.Bits.{member}
 use Rattle.general.specs.BigEndian.{number, numberFrom}
-use Rattle.general.specs.Indexed.{mapFrom}
+use Rattle.general.specs.Indexed.{mapFrom, countFrom}
 use Rattle.general.specs.Text.{ascii}
 use Rattle.consensus.specs.Instance.{pointFrom, faultOf, withinLimits}
-use Rattle.coordinator.specs.Message.{arriving}
+use Rattle.coordinator.specs.Message.{arriving, getsData, getsCommit}
 use Rattle.coordinator.specs.Transition.{sends, receives}
 use Rattle.coordinator.specs.Delivery.{amongFirst, reachAt, reachIn, reach}
 use Rattle.consensus.specs.State.{stateOf, crashesIn}
 use Rattle.coordinator.specs.Round.{sentBy, received, afterOutcome, after, statesAfter}
 use Rattle.coordinator.specs.Undecided.{isUndecided, anyUndecided}
-use Rattle.coordinator.specs.Count.{dataAt, commitsAt, countIn, speaks, dataIn, commitsIn}
+use Rattle.coordinator.specs.Count.{speaks, carries, carriedIn, dataIn, commitsIn}
 use Rattle.consensus.specs.CrashCount.{isIdle, countsAsCrash, crashCount}
 use Rattle.coordinator.specs.Run.{initial, withRound, runTo, runOf, crashesOf}
 use Rattle.coordinator.specs.Settling.{valuesHeld, allAre, oneValue, qualifies}
@@ -27,12 +26,12 @@ use Rattle.formats.specs.Ticket.{atEnd, readTicket}
 use Rattle.formats.specs.Table.{textOf, opening}
 use Rattle.formats.specs.FurtherRuns.{furtherRuns}
 use Rattle.formats.specs.LetterRuns.{letterRuns}
-use Rattle.formats.specs.Worked.{qualifyingIn, SettlingRounds, boundsOf, Case9MeetsBound}
+use Rattle.formats.specs.Worked.{qualifyingIn, SettlingRounds, boundsOf, Case9MeetsCommitBound}
 
 pub settling-rounds : SettlingRounds
-unfolding SettlingRounds qualifyingTo qualifyingRounds qualifyingIn textOf ascii opening furtherRuns letterRuns onesIn member ones64 number numberFrom mapFrom pointFrom faultOf withinLimits arriving sends receives amongFirst reachAt reachIn reach stateOf crashesIn sentBy received afterOutcome after statesAfter isUndecided anyUndecided dataAt commitsAt countIn speaks dataIn commitsIn isIdle countsAsCrash crashCount initial withRound runTo runOf crashesOf valuesHeld allAre oneValue qualifies digitValue isDigit scan closed unclosed linesFrom linesOf proceed readFrom isKind headerSays afterProposal proposalSays failureLine placesCrash allBetween suitsStep crashSays failureSays lineSays unproposed withProposal withCrash begin store accept atEnd readTicket
+unfolding SettlingRounds qualifyingTo qualifyingRounds qualifyingIn textOf ascii opening furtherRuns letterRuns member number numberFrom mapFrom countFrom pointFrom faultOf withinLimits arriving getsData getsCommit sends receives amongFirst reachAt reachIn reach stateOf crashesIn sentBy received afterOutcome after statesAfter isUndecided anyUndecided speaks carries carriedIn dataIn commitsIn isIdle countsAsCrash crashCount initial withRound runTo runOf crashesOf valuesHeld allAre oneValue qualifies digitValue isDigit scan closed unclosed linesFrom linesOf proceed readFrom isKind headerSays afterProposal proposalSays failureLine placesCrash allBetween suitsStep crashSays failureSays lineSays unproposed withProposal withCrash begin store accept atEnd readTicket
 settling-rounds = refl
 
-pub case-9-meets-bound : Case9MeetsBound
-unfolding Case9MeetsBound boundsOf textOf ascii onesIn member ones64 number numberFrom mapFrom pointFrom faultOf withinLimits arriving sends receives amongFirst reachAt reachIn reach stateOf crashesIn sentBy received afterOutcome after statesAfter isUndecided anyUndecided dataAt commitsAt countIn speaks dataIn commitsIn isIdle countsAsCrash crashCount initial withRound runTo runOf crashesOf digitValue isDigit scan closed unclosed linesFrom linesOf proceed readFrom isKind headerSays afterProposal proposalSays failureLine placesCrash allBetween suitsStep crashSays failureSays lineSays unproposed withProposal withCrash begin store accept atEnd readTicket
-case-9-meets-bound = refl
+pub case-9-meets-commit-bound : Case9MeetsCommitBound
+unfolding Case9MeetsCommitBound boundsOf textOf ascii member number numberFrom mapFrom countFrom pointFrom faultOf withinLimits arriving getsData getsCommit sends receives amongFirst reachAt reachIn reach stateOf crashesIn sentBy received afterOutcome after statesAfter isUndecided anyUndecided speaks carries carriedIn dataIn commitsIn isIdle countsAsCrash crashCount initial withRound runTo runOf crashesOf digitValue isDigit scan closed unclosed linesFrom linesOf proceed readFrom isKind headerSays afterProposal proposalSays failureLine placesCrash allBetween suitsStep crashSays failureSays lineSays unproposed withProposal withCrash begin store accept atEnd readTicket
+case-9-meets-commit-bound = refl

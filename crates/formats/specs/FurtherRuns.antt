@@ -1,6 +1,6 @@
 -- Runs that no marked case has (document 01, 'Worked runs', has cases 1 to 12), with what the program writes for them by the second implementation: of a
--- coordinator that crashes while sending commits, those that send none and two; a set of several processes; a run that ends in a silent round; and an idle
--- line of a round above its process.
+-- coordinator that crashes while sending commits, those that send none and two; a set of several processes; a run that ends in a silent round; an idle
+-- line of a round above its process; and messages that are sent and do not count (document 02, Paper 4).
 use mathlib.Core.List.{List, [], _∷_}
 use Rattle.formats.specs.Table.{Case, caseOf, withFailure, case8}
 
@@ -14,7 +14,7 @@ noCommit =
 abbrev pub twoCommits : Case
 twoCommits =
     withFailure 14 "03010102000000000000000002"
-    ("11010201000000000302" ∷ "110201020000000A0202" ∷ "110301010000000A0000" ∷ "110401010000000A0000" ∷ "1202010200050004" ∷ [])
+    ("11010201000000000302" ∷ "110201020000000A0000" ∷ "110301010000000A0000" ∷ "110401010000000A0000" ∷ "1202010200030002" ∷ [])
 
 -- Case 4 with the set of processes 2 and 4: two data messages leave in round 1.
 abbrev pub setOfTwo : Case
@@ -34,5 +34,14 @@ abbrev pub afterItsRound : Case
 afterItsRound =
     withFailure 17 "03010200000000000000000000" (case8 .output)
 
+-- Of the data that process 2 sends to processes 3 to 6 in round 2, two messages count: process 6 has decided, process 5 crashed in round 1, and process 4
+-- crashes in round 2 itself. Of process 3 none counts.
+abbrev pub twoDropped : Case
+twoDropped =
+    caseOf 18 ("010604" ∷ "02010000000A" ∷ "020200000014" ∷ "02030000001E" ∷ "020400000028" ∷ "020500000032" ∷ "02060000003C"
+    ∷ "03010102000000000000000001" ∷ "03020201000000000000003C00" ∷ "03040200000000000000000000" ∷ "03050100000000000000000000" ∷ "04" ∷ [])
+    ("11010201000000000501" ∷ "11020202000000000200" ∷ "110301030000000A0000" ∷ "11040202000000000000" ∷ "11050201000000000000" ∷ "110601010000000A0000"
+    ∷ "1203040300070001" ∷ [])
+
 unfoldable pub furtherRuns : List Case
-furtherRuns = noCommit ∷ twoCommits ∷ setOfTwo ∷ silentAtLast ∷ afterItsRound ∷ []
+furtherRuns = noCommit ∷ twoCommits ∷ setOfTwo ∷ silentAtLast ∷ afterItsRound ∷ twoDropped ∷ []

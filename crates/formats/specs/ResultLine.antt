@@ -17,7 +17,8 @@ endBytes (undecided v) = 0 ∷ 0 ∷ bytesOf 4 v
 endBytes (decided round v) = 1 ∷ round ∷ bytesOf 4 v
 endBytes (crashed round) = 2 ∷ round ∷ bytesOf 4 0
 
--- 11, station, end, round, value (4 bytes), and the data and the commits that the station sent, be it decided or dark (document 02, Paper 2).
+-- 11, station, end, round, value (4 bytes), and the data and the commits that the station sent, be it decided or dark (document 02, Paper 2), as far as they
+-- count (Paper 4).
 unfoldable pub processLine : (p : ℕ) → State → (dataSent commitsSent : ℕ) → List ℕ
 processLine p s dataSent commitsSent = hexLine (0x11 ∷ p ∷ endBytes s ++ (dataSent ∷ commitsSent ∷ []))
 

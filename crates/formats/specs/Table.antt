@@ -1,11 +1,11 @@
 -- The marked cases of document 01, 'Worked runs': each ticket's lines, and the lines that the program writes for it, with the two bytes that document 02,
--- Paper 2, adds to each line 11.
+-- Paper 2, adds to each line 11, and with the messages counted as Paper 4 says.
 use mathlib.Core.List.{List, [], _∷_, _++_}
 use Prim.Native.Nat.{ℕ}
 use Prim.Native.String.{String}
 use Rattle.general.specs.Text.{ascii}
 
--- A ticket and the result or the refusal that it gets, under document 01's number, or from 13 on that of a further run, from 18 on in small letters.
+-- A ticket and the result or the refusal that it gets, under document 01's number, or from 13 on that of a further run, from 19 on in small letters.
 pub record Case : Type 0 where
   pub number : ℕ
   pub ticket : List String
@@ -31,7 +31,7 @@ withFailure number line output = caseOf number (opening ++ (line ∷ "04" ∷ []
 abbrev pub case1 : Case
 case1 =
     caseOf 1 ("010402" ∷ "02010000000A" ∷ "020200000014" ∷ "02030000001E" ∷ "020400000028" ∷ "03010102000000000000000001" ∷ "04" ∷ [])
-    ("11010201000000000301" ∷ "110201020000000A0202" ∷ "110301020000000A0000" ∷ "110401010000000A0000" ∷ "1202010200050003" ∷ [])
+    ("11010201000000000301" ∷ "110201020000000A0101" ∷ "110301020000000A0000" ∷ "110401010000000A0000" ∷ "1202010200040002" ∷ [])
 
 -- Case 2: one process.
 abbrev pub case2 : Case
@@ -75,15 +75,15 @@ case8 =
     withFailure 8 "03030200000000000000000000"
     ("110101010000000A0303" ∷ "110201010000000A0000" ∷ "110301010000000A0000" ∷ "110401010000000A0000" ∷ "1201000100030003" ∷ [])
 
--- Case 9: the bound by speakers met exactly: 42 data and 21 commit messages of 7 speakers.
+-- Case 9: of 10 processes 7 speak, and 3 commits count: the bound on commits met exactly. Of 42 data messages 24 count, and of 21 commits 3.
 abbrev pub case9 : Case
 case9 =
     caseOf 9 ("010A09" ∷ "02010000000A" ∷ "020200000014" ∷ "02030000001E" ∷ "020400000028" ∷ "020500000032" ∷ "02060000003C" ∷ "020700000046"
     ∷ "020800000050" ∷ "02090000005A" ∷ "020A00000064" ∷ "03010102000000000000000003" ∷ "03020202000000000000000003"
     ∷ "03030302000000000000000003" ∷ "03040402000000000000000003" ∷ "03050502000000000000000003" ∷ "03060602000000000000000003"
     ∷ "03070702000000000000000003" ∷ "03080100000000000000000000" ∷ "03090100000000000000000000" ∷ "04" ∷ [])
-    ("11010201000000000903" ∷ "11020202000000000803" ∷ "11030203000000000703" ∷ "11040204000000000603" ∷ "11050205000000000503" ∷ "11060206000000000403"
-    ∷ "11070207000000000303" ∷ "11080201000000000000" ∷ "11090201000000000000" ∷ "110A01010000000A0000" ∷ "12070907002A0015" ∷ [])
+    ("11010201000000000903" ∷ "11020202000000000500" ∷ "11030203000000000400" ∷ "11040204000000000300" ∷ "11050205000000000200" ∷ "11060206000000000100"
+    ∷ "11070207000000000000" ∷ "11080201000000000000" ∷ "11090201000000000000" ∷ "110A01010000000A0000" ∷ "1207090700180003" ∷ [])
 
 -- Case 10: n = 65: refusal 4, at line 1.
 abbrev pub case10 : Case

@@ -1,17 +1,17 @@
--- Sets of processes as bits: `ones64` is the library's count of ones, the size of a set of processes above p, of n, the count of ones as the number of
--- members, and the mask of the processes 1 to p. Assumes nothing.
+-- Sets of processes as bits: `ones64` is the library's count of ones, the count of ones as the number of members, and the mask of the processes 1 to p.
+-- Assumes nothing.
 use mathlib.Core.List.{List, [], _∷_}
 use mathlib.Core.Path.{_≡_, refl, sym, ap, ap₂, _∙_}
 use mathlib.Core.Bool.{Bool, true, false, cond}
 use Prim.Native.Nat.{ℕ, zero, suc, _+_, _-_, _*_, _/_, _%_, _^_, _≤_, _<_}
-use native.Mathlib.Nat.{div-add-mod', sub-add-cancel, lt-of-lt-of-le, pow-suc, mod-eq-of-lt, mod-lt, div-eq-of-lt}
+use native.Mathlib.Nat.{lt-of-lt-of-le, pow-suc, mod-eq-of-lt, mod-lt, div-eq-of-lt}
 use native.Mathlib.Numerals.{add-one, one-add}
 use native.Mathlib.Omega.{arith}
 use borrow.Author.Tests.{ltb-true, ltb-false, eqb-true, eqb-false, eq-eqb, ne-eqb}
 use lib.Bits.{bitAnd, and-mask}
 use lib.Dec.{eqb, ltb}
 use lib.ListN.{length}
-use lib.Count.{onesIn, ones, ones-step, ones-cat, ones-le}
+use lib.Count.{onesIn, ones, ones-step}
 use lib.Pow.{shr-lt, shr-shr, field, mod-mod-pow, pow-pos, pow-mono}
 use Rattle.general.specs.Bits.{member, ones64, membersTo}
 use Rattle.general.specs.Indexed.{countFrom}
@@ -28,16 +28,6 @@ ones-in (suc d) n h =
 ones64-ones : (n : ℕ) → n < 2 ^ 64 → ones64 n ≡ ones n
 unfolding ones64
 ones64-ones n h = ones-in 64 n h
-
--- A set of processes above p, of n.
-pub size-above : (p n set : ℕ) → p ≤ n → n ≤ 64 → set % 2 ^ p ≡ 0 → set < 2 ^ n → ones64 set ≤ n - p
-size-above p n set h g above within =
-    let high : set / 2 ^ p < 2 ^ (n - p) = shr-lt (n - p) p (rw sub-add-cancel within) in
-    let whole : set ≡ set / 2 ^ p * 2 ^ p + 0 = sym (div-add-mod' set (2 ^ p)) ∙ ap (λ (k : ℕ). set / 2 ^ p * 2 ^ p + k) above in
-    let size : ones64 set ≡ ones (set / 2 ^ p) + ones 0 =
-    ones64-ones set (lt-of-lt-of-le within (pow-mono g)) ∙ ap ones whole ∙ ones-cat p (set / 2 ^ p) 0 (pow-pos p)
-    in
-    omega (arith, ones-le (n - p) (set / 2 ^ p) high, ones-le 0 0 (pow-pos 0))
 
 -- One digit more to look at is the one above.
 onesIn-suc : (k set : ℕ) → onesIn (suc k) set ≡ set / 2 ^ k % 2 + onesIn k set

@@ -1,7 +1,7 @@
 -- Laws of `mapFrom`: its length, and what stands at each place and for each number, used wherever states are read process by process; and of `countFrom`:
--- tests that say the same, and the elements above a number. Assumes nothing.
+-- tests that say the same, that are stricter or that exclude one another, and the elements above a number. Assumes nothing.
 use mathlib.Core.List.{List, [], _∷_, _++_}
-use mathlib.Core.Path.{_≡_, refl, ap, ap₂, _∙_}
+use mathlib.Core.Path.{_≡_, refl, ap, ap₂, subst, _∙_}
 use mathlib.Core.Bool.{Bool, true, false, cond}
 use Prim.Native.Nat.{ℕ, zero, suc, _+_, _-_, _≤_, _<_}
 use native.Mathlib.Omega.{arith}
@@ -9,6 +9,7 @@ use borrow.Author.Tests.{ltb-true, ltb-false}
 use lib.Dec.{ltb}
 use lib.ListN.{length, getD}
 use Rattle.general.specs.Indexed.{mapFrom, countFrom}
+use Rattle.general.proofs.Tests.{cond-le}
 
 module _ {A B : Type 0} (f : ℕ → A → B) where
   pub length-mapFrom : (i : ℕ) (l : List A) → length (mapFrom f i l) ≡ length l
@@ -39,20 +40,53 @@ module _ {A B : Type 0} (f : ℕ → A → B) where
       ap (λ (m : List B). f i b ∷ m) (mapFrom-snoc (suc i) l a ∙ ap (λ (j : ℕ). mapFrom f (suc i) l ++ (f j a ∷ [])) e)
 
 module _ {A : Type 0} where
-  -- Tests that say the same of every element count the same.
+  -- Tests that say the same of every element, with its number, count the same.
   pub count-same : (f g : ℕ → A → Bool) (i : ℕ) (l : List A)
-      → ((k : ℕ) (a : A) → i ≤ k → k < i + length l → f k a ≡ g k a) → countFrom f i l ≡ countFrom g i l
+      → ((k : ℕ) (a : A) → k < length l → getD l k a ≡ a → f (i + k) a ≡ g (i + k) a) → countFrom f i l ≡ countFrom g i l
   unfolding countFrom
   count-same f g i [] same = refl
   count-same f g i (a ∷ l) same =
-      ap₂ (λ (b : Bool) (k : ℕ). cond b 1 0 + k) (same i a (omega arith) (omega arith))
-      (count-same f g (suc i) l (λ k c h less. same k c (omega arith) (omega arith)))
+      let own : f i a ≡ g i a = subst (λ (j : ℕ). f j a ≡ g j a) (omega arith) (same 0 a (omega arith) refl) in
+      let rest : (k : ℕ) (c : A) → k < length l → getD l k c ≡ c → f (suc i + k) c ≡ g (suc i + k) c =
+      λ k c h at. subst (λ (j : ℕ). f j c ≡ g j c) (omega arith) (same (suc k) c (omega arith) at)
+      in
+      ap₂ (λ (b : Bool) (k : ℕ). cond b 1 0 + k) own (count-same f g (suc i) l rest)
 
-  -- No element passes where none does.
-  pub count-none : (i : ℕ) (l : List A) → countFrom (λ p a. false) i l ≡ 0
+  -- The elements of a list that a function has made are counted as what it makes of those of the list.
+  pub count-mapFrom : {B : Type 0} (test : ℕ → A → Bool) (f : ℕ → B → A) (i : ℕ) (l : List B)
+      → countFrom test i (mapFrom f i l) ≡ countFrom (λ k b. test k (f k b)) i l
+  unfolding countFrom mapFrom
+  count-mapFrom test f i [] = refl
+  count-mapFrom test f i (b ∷ l) = ap (λ (k : ℕ). cond (test i (f i b)) 1 0 + k) (count-mapFrom test f (suc i) l)
+
+  -- Three tests of which at most one holds of an element, and only if another test does, count together at most what that one counts.
+  pub count-apart : (f g h test : ℕ → A → Bool) → ((k : ℕ) (a : A) → cond (f k a) 1 0 + cond (g k a) 1 0 + cond (h k a) 1 0 ≤ cond (test k a) 1 0)
+      → (i : ℕ) (l : List A) → countFrom f i l + countFrom g i l + countFrom h i l ≤ countFrom test i l
   unfolding countFrom
-  count-none i [] = refl
-  count-none i (a ∷ l) = omega (arith, count-none (suc i) l)
+  count-apart f g h test apart i [] = omega arith
+  count-apart f g h test apart i (a ∷ l) = omega (arith, apart i a, count-apart f g h test apart (suc i) l)
+
+  -- A test that is the stricter one counts no more.
+  pub count-stricter : (f g : ℕ → A → Bool) → ((k : ℕ) (a : A) → cond (f k a) 1 0 ≤ cond (g k a) 1 0) → (i : ℕ) (l : List A)
+      → countFrom f i l ≤ countFrom g i l
+  unfolding countFrom
+  count-stricter f g stricter i [] = omega arith
+  count-stricter f g stricter i (a ∷ l) = omega (arith, stricter i a, count-stricter f g stricter (suc i) l)
+
+  -- At most all are counted, and at least one if one passes.
+  pub count-le : (test : ℕ → A → Bool) (i : ℕ) (l : List A) → countFrom test i l ≤ length l
+  unfolding countFrom
+  count-le test i [] = omega arith
+  count-le test i (a ∷ l) = omega (arith, count-le test (suc i) l, cond-le (test i a) 1 0 1 (omega arith) (omega arith))
+
+  pub count-some : (test : ℕ → A → Bool) (d : A) (i : ℕ) (l : List A) (k : ℕ) → k < length l → test (i + k) (getD l k d) ≡ true → 1 ≤ countFrom test i l
+  unfolding countFrom
+  count-some test d i [] k h e = absurd (let z : ⊥ = omega arith in z)
+  count-some test d i (a ∷ l) zero h e =
+      let own : test i a ≡ true = subst (λ (j : ℕ). test j a ≡ true) (omega arith) e in
+      rw own (omega arith)
+  count-some test d i (a ∷ l) (suc k) h e =
+      omega (arith, count-some test d (suc i) l k (omega arith) (subst (λ (j : ℕ). test j (getD l k d) ≡ true) (omega arith) e))
 
   -- Of the numbers i + 1 to i + length l those above m are counted.
   count-beyond : (m i : ℕ) (l : List A) → countFrom (λ p a. ltb m p) (suc i) l ≡ i + length l - m - (i - m)

@@ -132,7 +132,7 @@ set-empty n test nobody = is-set n 0 test (pow-pos n) (λ p h g. member-none p �
 pub set-size : {A : Type 0} (n : ℕ) (test : ℕ → Bool) (l : List A) → length l ≡ n → n ≤ 64 → ones64 (setOf n test) ≡ countFrom (λ p a. test p) 1 l
 set-size n test l as-many small =
     size-among (setOf n test) l (rw as-many small) (rw as-many (set-within n test))
-    ∙ count-same _ _ 1 l (λ p a h g. member-set n test p h (omega arith))
+    ∙ count-same _ _ 1 l (λ k a h _. member-set n test (1 + k) (omega arith) (omega arith))
 
 -- The masks of the processes 1 to n, of those above p, and of p alone.
 all-set : (n : ℕ) → setOf n (λ p. true) ≡ 2 ^ n - 1

@@ -5,13 +5,13 @@ use native.Mathlib.Omega.{arith}
 use Rattle.general.specs.BigEndian.{number, numberFrom, bytesOf}
 use Rattle.general.specs.Indexed.{mapFrom}
 use Rattle.consensus.specs.Instance.{withinLimits, faultOf}
-use Rattle.coordinator.specs.Message.{arriving}
+use Rattle.coordinator.specs.Message.{arriving, getsData, getsCommit}
 use Rattle.coordinator.specs.Transition.{sends, receives}
 use Rattle.coordinator.specs.Delivery.{amongFirst, reachAt, reachIn, reach}
 use Rattle.consensus.specs.State.{decided, crashed, crashesIn, stateOf}
 use Rattle.coordinator.specs.Round.{sentBy, received, afterOutcome, after, statesAfter}
 use Rattle.coordinator.specs.Undecided.{isUndecided, anyUndecided}
-use Rattle.coordinator.specs.Count.{dataAt, commitsAt, countIn, speaks, dataIn, commitsIn}
+use Rattle.coordinator.specs.Count.{speaks, carries, carriedIn, dataIn, commitsIn}
 use Rattle.coordinator.specs.Run.{initial, withRound, runTo, runOf, endOf}
 use Rattle.consensus.specs.FourProcesses.{four, firstCrashes, afterOneCommit}
 use Rattle.part_format.specs.PartState.{stateBytes, stateFrom, identityValid, roundValid, fieldsValid, stateValid, stateRefusal, isOwnRound}
@@ -33,7 +33,7 @@ case1-parts = refl
 -- ---- how processes end
 
 ends : EndsAs afterOneCommit 4 (decided 1 10) × EndsAs afterOneCommit 1 (crashed 1)
-unfolding four firstCrashes afterOneCommit mapFrom faultOf arriving sends receives amongFirst reachAt reachIn reach crashesIn stateOf sentBy received afterOutcome after statesAfter isUndecided anyUndecided dataAt commitsAt countIn speaks dataIn commitsIn initial withRound runTo runOf endOf
+unfolding four firstCrashes afterOneCommit mapFrom faultOf arriving getsData getsCommit sends receives amongFirst reachAt reachIn reach crashesIn stateOf sentBy received afterOutcome after statesAfter isUndecided anyUndecided speaks carries carriedIn dataIn commitsIn initial withRound runTo runOf endOf
 ends = (record { isProcess = omega arith; state = refl }, record { isProcess = omega arith; state = refl })
 
 -- ---- which part is open

@@ -29,6 +29,8 @@ pub struct Counts {
     pub separate_runs: u64,
     /// Results of the module under test whose counts by process were added up.
     pub added_up: u64,
+    /// Results of it whose counts were held to the bounds by speakers.
+    pub within_bounds: u64,
     /// Tickets, of those above, with each of the 256 bytes in place of another.
     pub with_each_byte: u64,
     /// Tickets that the module under test ran and settled in other letters too.
@@ -46,7 +48,8 @@ impl fmt::Display for Counts {
         write!(
             f,
             "{} tickets ({} accepted, {} refused) in {} runs, {} settlings, \
-             {} runs by separate parts, {} results added up; \
+             {} runs by separate parts, {} results added up and {} held to the bounds on messages \
+             and on commits; \
              {} of these tickets with each of the 256 bytes in place of another; \
              {} of these tickets in other letters too; {} starts, {} speeches, {} closings",
             self.accepted + self.refused,
@@ -56,6 +59,7 @@ impl fmt::Display for Counts {
             self.settlings,
             self.separate_runs,
             self.added_up,
+            self.within_bounds,
             self.with_each_byte,
             self.in_other_letters,
             self.starts,
@@ -203,7 +207,8 @@ impl<M: Agreement> Comparison<M> {
     }
 
     /// Everything about one ticket: runs with output buffers of the lengths
-    /// `rooms`, settling, separate local parts, and the sums of the counts.
+    /// `rooms`, settling, separate local parts, and the sums of the counts and
+    /// their bounds.
     pub fn ticket(&mut self, text: &[u8], rooms: &[usize]) -> Result<(), Difference> {
         let differs = |what| Difference::Ticket { text: text.to_vec(), what };
         for &room in rooms {
@@ -216,7 +221,8 @@ impl<M: Agreement> Comparison<M> {
                 let (_, output) = run_into(&mut self.module, text, LONGEST_RESULT, 0);
                 let result = &output[..result_length(ticket.n)];
                 self.separate_run(&ticket, result).map_err(differs)?;
-                self.add_up(result).map_err(differs)
+                self.add_up(result).map_err(differs)?;
+                self.keep_bounds(result).map_err(differs)
             }
             Err(_) => {
                 self.counts.refused += 1;
@@ -276,14 +282,14 @@ impl<M: Agreement> Comparison<M> {
     }
 
     /// Separate local parts against the lines of the module's own result: the
-    /// ends, and the counts of what left each part.
+    /// ends, and the counts of what left each part and was carried.
     fn separate_run(&mut self, ticket: &Ticket, result: &[u8]) -> Result<(), String> {
         self.counts.separate_runs += 1;
         let ends = run_separately(&mut self.module, ticket)?;
         let lines = result.chunks_exact(PROCESS_LINE_LENGTH);
         for ((id, end), line) in (1..).zip(ends).zip(lines) {
             let mut separate = [0; PROCESS_LINE_LENGTH];
-            write_line(&process_line(id, end.status, end.value, end.sent), &mut separate);
+            write_line(&process_line(id, end.status, end.value, end.carried), &mut separate);
             if separate != line {
                 return Err(format!(
                     "process {id} on its own ends with {}, in the run with {}",
@@ -307,6 +313,27 @@ impl<M: Agreement> Comparison<M> {
             if sum.is_none() || sum != in_all {
                 return Err(format!("the {name} add up to {sum:?}, in the last line {in_all:?}"));
             }
+        }
+        Ok(())
+    }
+
+    /// The bounds on the counts of the module's own last line, by its speakers:
+    /// document 01's on all messages, and Paper 4's on commits, which are at most n
+    /// less the speakers. n is the number of process lines.
+    fn keep_bounds(&mut self, result: &[u8]) -> Result<(), String> {
+        self.counts.within_bounds += 1;
+        let (lines, last) = result.split_at(result.len() - LAST_LINE_LENGTH);
+        let n = (lines.len() / PROCESS_LINE_LENGTH) as u64;
+        let numbers = [(3, 1), (4, 2), (6, 2)].map(|(place, bytes)| number_at(last, place, bytes));
+        let [Some(k), Some(data), Some(commits)] = numbers else {
+            return Err(format!("the last line is {}", last.escape_ascii()));
+        };
+        let most = (k * (2 * n).saturating_sub(k + 1)).saturating_sub(k * k.saturating_sub(1) / 2);
+        if data + commits > most {
+            return Err(format!("{n} processes, {k} speakers: {data} + {commits} messages"));
+        }
+        if commits + k > n {
+            return Err(format!("{n} processes, {k} speakers: {commits} commits"));
         }
         Ok(())
     }
@@ -395,6 +422,8 @@ pub fn rooms_around(n: u8, by: usize) -> Vec<usize> {
 mod tests {
     use super::*;
     use crate::exhaustive;
+    use second::process::{Carried, Status};
+    use second::recount::{counted, end_round};
     use second::worked;
 
     /// A mistake that the comparison must see.
@@ -415,6 +444,13 @@ mod tests {
         NoCountsOfACrashedProcess,
         CutsCountsTo5Bits,
         CutsCountsAt62,
+        CountsCrashedAddressees,
+        CountsDecidedAddressees,
+        CountsEveryAddressee,
+        LeavesOutAddresseesThatCrash,
+        CountsAsTheRoundEnds,
+        LeavesOutRoundsWithoutData,
+        CountsNoMoreCrashesThanData,
         TakesRoomFor17BytesALine,
         AsksForOneByteMore,
         WritesALongerLastLine,
@@ -433,6 +469,18 @@ mod tests {
         Mistake::NoCountsOfACrashedProcess,
         Mistake::CutsCountsTo5Bits,
         Mistake::CutsCountsAt62,
+    ];
+
+    /// The mistakes about what is carried (02, Paper 4), the last two of them about
+    /// what the new counts must not change.
+    const ABOUT_CARRYING: [Mistake; 7] = [
+        Mistake::CountsCrashedAddressees,
+        Mistake::CountsDecidedAddressees,
+        Mistake::CountsEveryAddressee,
+        Mistake::LeavesOutAddresseesThatCrash,
+        Mistake::CountsAsTheRoundEnds,
+        Mistake::LeavesOutRoundsWithoutData,
+        Mistake::CountsNoMoreCrashesThanData,
     ];
 
     /// The mistakes about a result's length.
@@ -472,6 +520,57 @@ mod tests {
             let [data, commits] = miscounted(mistake, &lines, place).map(|count| count as u8);
             write_line(&[data, commits], &mut line[16..]);
         }
+    }
+
+    /// Whether a message of `round` to a process that ends so is counted by a
+    /// mistake.
+    fn is_counted(mistake: Mistake, end: Status, round: u8) -> bool {
+        let (ends_in, crashes) = (end_round(end), matches!(end, Status::Crashed(_)));
+        match mistake {
+            Mistake::CountsCrashedAddressees => round <= ends_in || crashes,
+            Mistake::CountsDecidedAddressees => round <= ends_in || !crashes,
+            Mistake::CountsEveryAddressee => true,
+            Mistake::LeavesOutAddresseesThatCrash => {
+                round < ends_in || round == ends_in && !crashes
+            }
+            Mistake::CountsAsTheRoundEnds => round < ends_in,
+            _ => round <= ends_in,
+        }
+    }
+
+    /// How the process of a line ends.
+    fn end_in(line: &[u8]) -> Status {
+        let [end, round] = [2, 3].map(|place| number_at(line, place, 1).expect("digits"));
+        if end == 1 {
+            Status::Decided(round as u8)
+        } else {
+            Status::Crashed(round as u8)
+        }
+    }
+
+    /// Counts anew in a right result what is carried, and with it what must not
+    /// change.
+    fn recount(mistake: Mistake, ticket: &Ticket, result: &mut [u8]) {
+        let (lines, last) = result.split_at_mut(result.len() - LAST_LINE_LENGTH);
+        let ends: Vec<Status> = lines.chunks(PROCESS_LINE_LENGTH).map(end_in).collect();
+        let mut in_all = [0u16; 2];
+        let [mut rounds, mut f, speakers] =
+            [1, 2, 3].map(|place| number_at(last, place, 1).expect("digits") as u8);
+        let mut last_with_data = 0;
+        for (id, line) in (1..).zip(lines.chunks_exact_mut(PROCESS_LINE_LENGTH)) {
+            let Carried { data, commits } =
+                counted(ticket, &ends, id, |end| is_counted(mistake, end, id));
+            write_line(&[data, commits], &mut line[16..]);
+            in_all = [in_all[0] + u16::from(data), in_all[1] + u16::from(commits)];
+            last_with_data = if data > 0 { id } else { last_with_data };
+        }
+        match mistake {
+            Mistake::LeavesOutRoundsWithoutData => rounds = last_with_data,
+            Mistake::CountsNoMoreCrashesThanData => f = f.min(in_all[0].min(255) as u8),
+            _ => {}
+        }
+        let [[a, b], [c, d]] = in_all.map(u16::to_be_bytes);
+        write_line(&[rounds, f, speakers, a, b, c, d], &mut last[2..]);
     }
 
     /// What a module answers that is mistaken about lengths.
@@ -538,6 +637,10 @@ mod tests {
                 mistake if answer < REFUSED && ABOUT_COUNTS.contains(&mistake) => {
                     miscount(mistake, &mut output[..length])
                 }
+                mistake if answer < REFUSED && ABOUT_CARRYING.contains(&mistake) => {
+                    let ticket = Ticket::parse(ticket).expect("an accepted ticket");
+                    recount(mistake, &ticket, &mut output[..length])
+                }
                 _ => {}
             }
             answer
@@ -581,13 +684,13 @@ mod tests {
     fn compared(mistake: Mistake) -> Result<(), Difference> {
         let mut comparison = Comparison::new(Mistaken(Simulator::new(), mistake));
         comparison.ticket(&worked::case(1).text(), &rooms_around(4, 2))?;
-        exhaustive::counts_of(&mut comparison, 64)?;
         for number in 1..=worked::CASES {
             comparison.in_other_letters(&worked::case(number).text(), result_length(10))?;
         }
         comparison.start(3, 4, 2, 30, 9)?;
         comparison.speak(&[2, 4, 2, 2, 0, 0, 0, 0, 10], 7)?;
-        comparison.close(&[3, 4, 2, 1, 0, 0, 0, 0, 30], &[0x21, 1, 0, 0, 0, 10])
+        comparison.close(&[3, 4, 2, 1, 0, 0, 0, 0, 30], &[0x21, 1, 0, 0, 0, 10])?;
+        exhaustive::counts_of(&mut comparison, 64)
     }
 
     #[test]
@@ -605,28 +708,33 @@ mod tests {
             Mistake::SpeaksOnRefusal,
             Mistake::DecidesOnDataAlone,
         ];
-        for mistake in others.into_iter().chain(ABOUT_COUNTS).chain(ABOUT_LENGTHS) {
+        let about_results = ABOUT_COUNTS.into_iter().chain(ABOUT_CARRYING).chain(ABOUT_LENGTHS);
+        for mistake in others.into_iter().chain(about_results) {
             assert!(compared(mistake).is_err(), "{mistake:?}");
         }
     }
 
-    /// What is said of a module's result by the sums alone and by separate parts
-    /// alone.
-    fn seen_by_itself(mistake: Mistake, ticket: &Ticket) -> [bool; 2] {
+    /// What is said of a module's result by the sums alone, by separate parts alone,
+    /// and by the bounds alone.
+    fn seen_by_itself(mistake: Mistake, ticket: &Ticket) -> [bool; 3] {
         let mut comparison = Comparison::new(Mistaken(Simulator::new(), mistake));
         let room = result_length(ticket.n);
         let (_, output) = run_into(&mut comparison.module, &ticket.text(), room, 0);
         let result = &output[..room];
-        [comparison.add_up(result), comparison.separate_run(ticket, result)]
-            .map(|seen| seen.is_err())
+        [
+            comparison.add_up(result),
+            comparison.separate_run(ticket, result),
+            comparison.keep_bounds(result),
+        ]
+        .map(|seen| seen.is_err())
     }
 
     #[test]
     fn mistakes_about_counts_are_seen_without_the_second_implementations_result() {
         let proposals = (1..=64).collect();
         let largest = Ticket { n: 64, t: 63, proposals, failures: Vec::new() };
-        for ticket in [worked::case(1), largest.clone()] {
-            assert_eq!(seen_by_itself(Mistake::None, &ticket), [false, false]);
+        for ticket in [worked::case(1), worked::case(9), largest.clone()] {
+            assert_eq!(seen_by_itself(Mistake::None, &ticket), [false; 3]);
         }
         for mistake in ABOUT_COUNTS {
             let ticket = match mistake {
@@ -636,8 +744,30 @@ mod tests {
             // The last process sends to none, so the sums stay if counts move on by one line;
             // and they stay if all counts are put together in one.
             let sums_stay = [Mistake::CountsAtTheProcessAfter, Mistake::CountsOfAllInTheFirstLine];
-            let expected = [!sums_stay.contains(&mistake), true];
+            // The last line is right, and so within its bounds.
+            let expected = [!sums_stay.contains(&mistake), true, false];
             assert_eq!(seen_by_itself(mistake, &ticket), expected, "{mistake:?}");
+        }
+    }
+
+    /// In case 9 counts that are too high are against a bound as well. The sums are
+    /// always right; and f and the rounds are no counts of messages, so the second
+    /// implementation's result alone shows that they are wrong.
+    #[test]
+    fn mistakes_about_carrying_are_seen_without_it_too() {
+        let figures = [
+            (Mistake::CountsCrashedAddressees, [true, true]),
+            (Mistake::CountsDecidedAddressees, [true, true]),
+            (Mistake::CountsEveryAddressee, [true, true]),
+            (Mistake::LeavesOutAddresseesThatCrash, [true, false]),
+            (Mistake::CountsAsTheRoundEnds, [true, false]),
+            (Mistake::LeavesOutRoundsWithoutData, [false, false]),
+            (Mistake::CountsNoMoreCrashesThanData, [false, false]),
+        ];
+        assert_eq!(figures.map(|(mistake, _)| mistake), ABOUT_CARRYING);
+        for (mistake, [by_parts, by_bounds]) in figures {
+            let seen = seen_by_itself(mistake, &worked::case(9));
+            assert_eq!(seen, [false, by_parts, by_bounds], "{mistake:?}");
         }
     }
 

@@ -55,17 +55,28 @@ pub fn rooms<M: Agreement>(comparison: &mut Comparison<M>) -> Result<(), Differe
     Ok(())
 }
 
-/// For each n, every count that a process can have in its line, with output
-/// buffers of the lengths that may be taken for the result's.
+/// For each n, every count of data and every count of commits that a process can
+/// have in its line.
 pub fn counts<M: Agreement>(comparison: &mut Comparison<M>) -> Result<(), Difference> {
     (1..=MOST_PROCESSES).try_for_each(|n| counts_of(comparison, n))
 }
 
-/// Every count of data and of commits of every one of `n` processes: up to the
-/// last they crash, each while it sends data or commits, after so many of them
-/// or all. A process that has one of the commits decides, so those below send
-/// on. Then none sends anything; and then the first alone, to all.
+/// Those of every one of `n` processes.
 pub fn counts_of<M: Agreement>(comparison: &mut Comparison<M>, n: u8) -> Result<(), Difference> {
+    crashing_one_after_the_other(comparison, n)?;
+    dropped(comparison, n)?;
+    commits(comparison, n)
+}
+
+/// Every count of data: up to the last the processes crash, each while it sends
+/// data to so many of those above it, who are all up, or while it sends so many
+/// commits. Those who have a commit of the first decide, and what goes to them
+/// after that is dropped. Then none sends anything; and then the first alone, to
+/// all. Output buffers are of the lengths that may be taken for the result's.
+fn crashing_one_after_the_other<M: Agreement>(
+    comparison: &mut Comparison<M>,
+    n: u8,
+) -> Result<(), Difference> {
     let rooms = rooms_at_limits(n);
     let mut compare = |how: &dyn Fn(u8) -> Failure, crashing: u8| {
         let proposals = (1..=u32::from(n)).map(|process| process * 0x0101_0101).collect();
@@ -80,6 +91,63 @@ pub fn counts_of<M: Agreement>(comparison: &mut Comparison<M>, n: u8) -> Result<
     }
     compare(&|process| Failure::before_sending(process, process), n - 1)?;
     compare(&|process| Failure::before_sending(process, process), 0)
+}
+
+/// Every count of commits: those below a process crash before their first commit,
+/// so that all above it are up, and it crashes after so many of its own.
+fn commits<M: Agreement>(comparison: &mut Comparison<M>, n: u8) -> Result<(), Difference> {
+    for last in 1..n {
+        for count in 0..=n - last {
+            let sent = |process| if process == last { count } else { 0 };
+            let failures =
+                (1..=last).map(|process| Failure::sending_commits(process, sent(process)));
+            one_room(comparison, n, failures.collect())?;
+        }
+    }
+    Ok(())
+}
+
+/// What process 2 sends while the last so many processes have decided in round 1,
+/// have crashed in it, or crash in this very round; it sends to all, or crashes
+/// after the first commit to another one, or while it sends data to the third
+/// process and the last (02, Paper 4).
+fn dropped<M: Agreement>(comparison: &mut Comparison<M>, n: u8) -> Result<(), Difference> {
+    for count in 0..n.saturating_sub(1) {
+        let last = n - count + 1..=n;
+        let silent_in = |round| last.clone().map(move |id| Failure::before_sending(id, round));
+        let ways: [Vec<Failure>; 3] = [
+            vec![Failure::sending_commits(1, count)],
+            [Failure::sending_commits(1, 0)].into_iter().chain(silent_in(1)).collect(),
+            [Failure::sending_commits(1, 0)].into_iter().chain(silent_in(2)).collect(),
+        ];
+        let ends = [
+            None,
+            Some(Failure::sending_commits(2, (count + 1).min(n - 2))),
+            Some(Failure::sending_data(2, processes_above(2, n) & (1 << 2 | 1 << (n - 1)))),
+        ];
+        for way in &ways {
+            for end in ends {
+                let failures: Vec<Failure> =
+                    way[..1].iter().copied().chain(end).chain(way[1..].iter().copied()).collect();
+                if failures.len() < usize::from(n) {
+                    one_room(comparison, n, failures)?;
+                }
+            }
+        }
+    }
+    Ok(())
+}
+
+/// A ticket of `n` processes, all proposals different, with the least t that allows
+/// the failures, and an output buffer of the result's length.
+fn one_room<M: Agreement>(
+    comparison: &mut Comparison<M>,
+    n: u8,
+    failures: Vec<Failure>,
+) -> Result<(), Difference> {
+    let t = (failures.len() as u8).max(1);
+    let proposals = (1..=u32::from(n)).collect();
+    comparison.ticket(&Ticket { n, t, proposals, failures }.text(), &[result_length(n)])
 }
 
 /// Each of the 256 bytes at every place of a ticket, and each two of them as the
@@ -219,7 +287,11 @@ fn speak_and_close<M: Agreement>(
 #[cfg(test)]
 mod tests {
     use super::*;
+    use second::interface::REFUSED;
     use second::Simulator;
+    use std::cell::RefCell;
+    use std::collections::BTreeSet;
+    use std::rc::Rc;
 
     /// The second implementation with one mistake about digits: it takes a byte
     /// for another.
@@ -268,6 +340,60 @@ mod tests {
             byte_at_every_place(&mut Comparison::new(misreads()), byte),
             byte_before_every_byte(&mut Comparison::new(misreads()), byte),
         ]
+    }
+
+    /// The second implementation, with the counts that stand in its results: of
+    /// which process, which of the two, and how many.
+    struct Recorded {
+        second: Simulator,
+        counts: Rc<RefCell<BTreeSet<(u8, usize, u8)>>>,
+    }
+
+    impl Agreement for Recorded {
+        fn run(&mut self, ticket: &[u8], output: &mut [u8]) -> u64 {
+            let answer = Agreement::run(&mut self.second, ticket, output);
+            let result = if answer < REFUSED { &output[..answer as usize] } else { &[] };
+            let text = String::from_utf8_lossy(result);
+            for (process, line) in (1..).zip(text.lines().filter(|line| line.starts_with("11"))) {
+                for (kind, at) in [16, 18].into_iter().enumerate() {
+                    let count = u8::from_str_radix(&line[at..at + 2], 16).expect("two digits");
+                    self.counts.borrow_mut().insert((process, kind, count));
+                }
+            }
+            answer
+        }
+
+        fn settle(&mut self, ticket: &[u8]) -> u64 {
+            self.second.settle(ticket)
+        }
+
+        fn start(&mut self, process: u64, n: u64, t: u64, value: u32, state: &mut [u8]) -> u64 {
+            self.second.start(process, n, t, value, state)
+        }
+
+        fn speak(&mut self, state: &[u8], output: &mut [u8]) -> u64 {
+            self.second.speak(state, output)
+        }
+
+        fn close(&mut self, state: &mut [u8], heard: &[u8]) -> u64 {
+            self.second.close(state, heard)
+        }
+    }
+
+    #[test]
+    fn every_count_of_every_process_stands_in_a_line() {
+        for n in [1, 2, 3, 7, 12] {
+            let counts = Rc::new(RefCell::new(BTreeSet::new()));
+            let recorded = Recorded { second: Simulator::new(), counts: counts.clone() };
+            assert_eq!(counts_of(&mut Comparison::new(recorded), n), Ok(()));
+            let of_process = |process: u8| {
+                (0..2).flat_map(move |kind| {
+                    (0..=n - process).map(move |count| (process, kind, count))
+                })
+            };
+            let all: BTreeSet<_> = (1..=n).flat_map(of_process).collect();
+            assert_eq!(*counts.borrow(), all, "{n}");
+        }
     }
 
     #[test]

@@ -2,11 +2,11 @@
 
 use std::fmt;
 
-use super::model::{Counts, Run, Sent, State};
+use super::model::{Counts, Messages, Run, State};
 use super::rules::{right, Rules};
 use crate::process::{Process, Status};
 use crate::simulation::{Simulation, Totals};
-use crate::ticket::{Failure, Ticket};
+use crate::ticket::{processes_above, Crash, Failure, Ticket};
 use crate::worked;
 use crate::Simulator;
 
@@ -35,20 +35,25 @@ pub enum Claim {
     SpeakersWithinBound,
     /// Data and commits are at most k(2n − k − 1) − k(k − 1)/2.
     MessagesWithinBound,
+    /// Commits are at most n − k.
+    CommitsWithinBound,
     /// The run's rounds are those that began with a process up and undecided.
     CountsRounds,
     /// Speakers are the coordinators that began their own round up and undecided.
     CountsSpeakers,
-    /// The messages counted of a round are as many as the processes that they
-    /// reach.
+    /// The messages counted of a round are as many as the processes, up and
+    /// undecided when it began, that they reach.
     CountsReached,
+    /// They are as many as the ones in a set: of those to whom the coordinator sends,
+    /// by the step of its failure line, and who began the round up and undecided.
+    CountsBySets,
     /// The counts in a process's line are those of its own round if it began
     /// that up and undecided, and else 0.
     CountsOwnRound,
     /// The counts over all processes add up to the run's.
     CountsAddUp,
-    /// A process sends no more data messages than there are processes above it,
-    /// and no more commits.
+    /// A process's line counts no more data messages than there are processes above
+    /// it, and no more commits.
     CountsThoseAbove,
     /// The run has a last round, and that round qualifies for settling.
     LastRoundSettles,
@@ -65,7 +70,7 @@ pub enum Claim {
 }
 
 /// All claims but those of the worked runs.
-pub const CLAIMS: [Claim; 20] = [
+pub const CLAIMS: [Claim; 22] = [
     Claim::Agreement,
     Claim::Validity,
     Claim::Termination,
@@ -76,9 +81,11 @@ pub const CLAIMS: [Claim; 20] = [
     Claim::NoLater,
     Claim::SpeakersWithinBound,
     Claim::MessagesWithinBound,
+    Claim::CommitsWithinBound,
     Claim::CountsRounds,
     Claim::CountsSpeakers,
     Claim::CountsReached,
+    Claim::CountsBySets,
     Claim::CountsOwnRound,
     Claim::CountsAddUp,
     Claim::CountsThoseAbove,
@@ -101,9 +108,11 @@ impl fmt::Display for Claim {
             Claim::NoLater => write!(f, "the pair: no later"),
             Claim::SpeakersWithinBound => write!(f, "k ≤ f + 1"),
             Claim::MessagesWithinBound => write!(f, "messages within the bound by speakers"),
+            Claim::CommitsWithinBound => write!(f, "commits at most n less the speakers"),
             Claim::CountsRounds => write!(f, "rounds end when none is undecided"),
             Claim::CountsSpeakers => write!(f, "speakers begin their rounds undecided"),
-            Claim::CountsReached => write!(f, "messages counted are those that reach a process"),
+            Claim::CountsReached => write!(f, "messages counted are those to the undecided"),
+            Claim::CountsBySets => write!(f, "messages counted are the ones of a set"),
             Claim::CountsOwnRound => write!(f, "counts by process are those of its own round"),
             Claim::CountsAddUp => write!(f, "counts by process add up"),
             Claim::CountsThoseAbove => write!(f, "counts by process are at most those above it"),
@@ -152,6 +161,7 @@ impl Claim {
             Claim::MessagesWithinBound => {
                 run.counts.data + run.counts.commits <= (rules.most_messages)(run)
             }
+            Claim::CommitsWithinBound => run.counts.commits <= (rules.most_commits)(run),
             Claim::CountsRounds => {
                 let undecided =
                     |states: &[State]| states.iter().any(|&state| right::is_undecided(state));
@@ -164,28 +174,30 @@ impl Claim {
                 run.counts.speakers
                     == own.filter(|&state| right::is_undecided(state)).count() as u64
             }
-            Claim::CountsReached => {
-                (1..=run.n).all(|round| run.messages(round, rules) == run.reached(round, rules))
-            }
-            Claim::CountsOwnRound => (1..).zip(&run.sent).all(|(process, &sent)| {
+            Claim::CountsReached => (1..=run.last_round())
+                .all(|round| run.messages(round, rules) == run.reached(round, rules)),
+            Claim::CountsBySets => (1..).zip(rounds(run)).all(|(round, states)| {
+                run.messages(round, rules) == ones(round, states, run, rules)
+            }),
+            Claim::CountsOwnRound => (1..).zip(&run.shown).all(|(process, &shown)| {
                 let sends = process <= run.last_round()
                     && is_up_after((rules.sends_after)(process), process, run);
-                sent == if sends { run.messages(process, rules) } else { (0, 0) }
+                shown == if sends { run.messages(process, rules) } else { (0, 0) }
             }),
             Claim::CountsAddUp => {
-                let summed = run.sent.iter().skip(usize::from(rules.summed_from) - 1);
-                let sum = summed.fold((0, 0), |sum, sent| (sum.0 + sent.0, sum.1 + sent.1));
+                let summed = run.shown.iter().skip(usize::from(rules.summed_from) - 1);
+                let sum = summed.fold((0, 0), |sum, shown| (sum.0 + shown.0, sum.1 + shown.1));
                 sum == (run.counts.data, run.counts.commits)
             }
-            Claim::CountsThoseAbove => (1..).zip(&run.sent).all(|(process, &(data, commits))| {
-                let most = (rules.most_sent)(run.n, process);
+            Claim::CountsThoseAbove => (1..).zip(&run.shown).all(|(process, &(data, commits))| {
+                let most = (rules.most_of_process)(run.n, process);
                 data <= most && commits <= most
             }),
             Claim::LastRoundSettles => run.settling_rounds(rules).contains(&run.counts.rounds),
             Claim::IdleLinesChangeNothing => {
                 let other = Run::new(&without_idle(ticket, run, rules), rules);
-                (&other.history, other.counts, &other.sent, other.f)
-                    == (&run.history, run.counts, &run.sent, run.f)
+                (&other.history, other.counts, &other.shown, other.f)
+                    == (&run.history, run.counts, &run.shown, run.f)
             }
             Claim::NoLater
             | Claim::IdleLinesTakenOut
@@ -203,6 +215,23 @@ pub fn decides_by(latest: u8, run: &Run, rules: &Rules) -> bool {
 /// The states as each round began, from round 1 on.
 fn rounds(run: &Run) -> impl Iterator<Item = &[State]> {
     run.history[..run.history.len() - 1].iter().map(Vec::as_slice)
+}
+
+/// The data messages and the commits of a round that begins with these states, as
+/// the ones of the sets of those to whom they are counted.
+fn ones(round: u8, states: &[State], run: &Run, rules: &Rules) -> Messages {
+    let line = run.faults[usize::from(round) - 1].filter(|failure| failure.round == round);
+    let above = processes_above(round, run.n);
+    let (data, commits) = match line.map(|failure| failure.crash) {
+        None => (above, above),
+        Some(Crash::BeforeSending) => (0, 0),
+        Some(Crash::SendingData { reached }) => (reached, 0),
+        Some(Crash::SendingCommits { sent }) => (above, processes_above(run.n - sent, run.n)),
+    };
+    let undecided = (0..).zip(states).filter(|(_, &state)| right::is_undecided(state));
+    let undecided = undecided.fold(0, |set, (place, _)| set | 1 << place);
+    let counted = |sent_to| u64::from((rules.counted_among)(sent_to, undecided).count_ones());
+    (counted(data), counted(commits))
 }
 
 /// Whether a process is up and undecided when so many rounds are over.
@@ -274,9 +303,10 @@ pub struct Answer {
     /// What is counted.
     pub counts: Counts,
     /// The counts in the line of each process.
-    pub sent: Vec<Sent>,
-    /// The last round in which one may decide, and the most messages.
-    pub limits: (u8, u64),
+    pub shown: Vec<Messages>,
+    /// The last round in which one may decide, the most messages and the most
+    /// commits.
+    pub limits: (u8, u64, u64),
     /// The rounds that qualify for settling.
     pub settling_rounds: Vec<u8>,
 }
@@ -288,8 +318,8 @@ pub fn answer(ticket: &Ticket, rules: &Rules) -> Answer {
         ends: run.ends().to_vec(),
         f: run.f,
         counts: run.counts,
-        sent: run.sent.clone(),
-        limits: ((rules.latest)(run.f), (rules.most_messages)(&run)),
+        shown: run.shown.clone(),
+        limits: ((rules.latest)(run.f), (rules.most_messages)(&run), (rules.most_commits)(&run)),
         settling_rounds: run.settling_rounds(rules),
     }
 }
@@ -303,12 +333,13 @@ pub fn answer_of_simulation(ticket: &Ticket) -> Answer {
         Status::Decided(round) => State::Decided(round, process.estimate()),
         Status::Crashed(round) => State::Crashed(round),
     });
-    let sent = simulation.processes().iter().map(Process::sent);
-    let sent = sent.map(|sent| (sent.data.into(), sent.commits.into())).collect();
+    let carried = simulation.processes().iter().map(Process::carried);
+    let shown = carried.map(|count| (count.data.into(), count.commits.into())).collect();
     let counts =
         Counts { rounds, speakers: speakers.into(), data: data.into(), commits: commits.into() };
     let settling_rounds = Simulator::new().settling_rounds(&ticket.text());
     let settling_rounds = settling_rounds.expect("an accepted ticket");
-    let limits = (crashes + 1, right::bound_by_speakers(ticket.n, counts.speakers));
-    Answer { ends: ends.collect(), f: crashes, counts, sent, limits, settling_rounds }
+    let most_messages = right::bound_by_speakers(ticket.n, counts.speakers);
+    let limits = (crashes + 1, most_messages, u64::from(ticket.n) - counts.speakers);
+    Answer { ends: ends.collect(), f: crashes, counts, shown, limits, settling_rounds }
 }

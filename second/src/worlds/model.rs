@@ -81,14 +81,48 @@ pub struct Counts {
     pub rounds: u8,
     /// Coordinators that began their own round up and undecided.
     pub speakers: u64,
-    /// Data messages sent.
+    /// Data messages carried.
     pub data: u64,
-    /// Commits sent.
+    /// Commits carried.
     pub commits: u64,
 }
 
 /// Data messages and commits.
-pub type Sent = (u64, u64);
+pub type Messages = (u64, u64);
+
+/// One of the two.
+#[derive(Clone, Copy, Debug, PartialEq, Eq)]
+pub enum Kind {
+    /// A data message.
+    Data,
+    /// A commit.
+    Commit,
+}
+
+/// A process as a message to it is counted in a round, or is not.
+#[derive(Clone, Copy, Debug)]
+pub struct Addressee {
+    /// The process.
+    pub process: u8,
+    /// The round.
+    pub round: u8,
+    /// How far the messages of the round's coordinator get to the process.
+    pub reach: Reach,
+    /// The process as the round begins.
+    pub before: State,
+    /// The process as the round ends.
+    pub after: State,
+}
+
+impl Addressee {
+    /// Whether a message of this kind gets to the process.
+    pub fn gets(&self, kind: Kind) -> bool {
+        match kind {
+            Kind::Data => self.reach != Reach::None,
+            Kind::Commit => self.reach == Reach::All,
+        }
+    }
+}
 
 /// What the counts in a process's result line are taken from.
 #[derive(Clone, Copy, Debug)]
@@ -98,23 +132,23 @@ pub struct Line<'a> {
     /// How it ends.
     pub end: State,
     /// The messages counted of each process, from process 1 on.
-    pub sent: &'a [Sent],
+    pub counted: &'a [Messages],
     /// The messages of all.
-    pub in_all: Sent,
+    pub in_all: Messages,
     /// The last round that is run.
     pub last_round: u8,
 }
 
 impl Line<'_> {
     /// The messages counted of a process; none of one that is not there.
-    pub fn sent_by(&self, process: u8) -> Sent {
+    pub fn counted_of(&self, process: u8) -> Messages {
         let place = usize::from(process).checked_sub(1);
-        place.and_then(|place| self.sent.get(place)).copied().unwrap_or_default()
+        place.and_then(|place| self.counted.get(place)).copied().unwrap_or_default()
     }
 
     /// Those counted of the process itself.
-    pub fn own(&self) -> Sent {
-        self.sent_by(self.process)
+    pub fn own(&self) -> Messages {
+        self.counted_of(self.process)
     }
 }
 
@@ -130,7 +164,7 @@ pub struct Run {
     /// The counts.
     pub counts: Counts,
     /// The counts in the line of each process, from process 1 on.
-    pub sent: Vec<Sent>,
+    pub shown: Vec<Messages>,
     /// f: the failure lines that count as a crash.
     pub f: u8,
 }
@@ -138,6 +172,14 @@ pub struct Run {
 impl Run {
     /// The run of `ticket` under `rules`.
     pub fn new(ticket: &Ticket, rules: &Rules) -> Run {
+        let mut run = Run::of_rounds(ticket, rules);
+        (run.counts, run.shown) = run.counts(rules);
+        run.f = (rules.f_counted)(run.lines_that_count(run.ends(), rules), run.counts.commits);
+        run
+    }
+
+    /// The same with nothing counted.
+    pub fn of_rounds(ticket: &Ticket, rules: &Rules) -> Run {
         let initial = ticket.proposals.iter().map(|&proposal| (rules.initial)(proposal));
         let mut run = Run::of_states(ticket, initial.collect());
         for failure in run.faults.iter_mut().flatten() {
@@ -147,8 +189,6 @@ impl Run {
             let states = run.states_after((rules.round_run)(round), run.ends(), rules);
             run.history.push(states);
         }
-        (run.counts, run.sent) = run.counts(rules);
-        run.f = run.lines_that_count(run.ends(), rules);
         run
     }
 
@@ -159,7 +199,7 @@ impl Run {
             faults[usize::from(failure.process) - 1] = Some(*failure);
         }
         let counts = Counts::default();
-        Run { n: ticket.n, faults, history: vec![states], counts, sent: Vec::new(), f: 0 }
+        Run { n: ticket.n, faults, history: vec![states], counts, shown: Vec::new(), f: 0 }
     }
 
     /// The last state of each process.
@@ -190,20 +230,29 @@ impl Run {
     fn states_after(&self, round: u8, states: &[State], rules: &Rules) -> Vec<State> {
         let coordinator = (rules.coordinator)(round, self.n);
         let sent_by = states[usize::from(coordinator) - 1];
-        let crashed = self.crashed_by(round, states);
-        let sending = Sending { n: self.n, round, crashed };
+        let sending = self.sending(round, states);
         let after = |(process, &state): (u8, &State)| {
             let State::Undecided(estimate) = state else {
                 return state;
             };
-            let sending = Sending { n: (rules.commit_list)(&sending, process), ..sending };
-            let reach = reach(&sending, self.fault(coordinator), process, rules);
-            let heard = (rules.hears)(reach, sent_by);
+            let heard = (rules.hears)(self.reach(&sending, process, rules), sent_by);
             let step = Step { round, process, estimate, heard };
             let crashes = self.crashes_in(round, process);
             (if crashes { rules.crashes } else { rules.receives })(&step)
         };
         (1..).zip(states).map(after).collect()
+    }
+
+    /// What sending looks at in a round that begins with these states.
+    fn sending(&self, round: u8, states: &[State]) -> Sending {
+        Sending { n: self.n, round, crashed: self.crashed_by(round, states) }
+    }
+
+    /// How far the messages of the round's coordinator get to process `to`.
+    fn reach(&self, sending: &Sending, to: u8, rules: &Rules) -> Reach {
+        let fault = self.fault((rules.coordinator)(sending.round, self.n));
+        let sending = Sending { n: (rules.commit_list)(sending, to), ..*sending };
+        reach(&sending, fault, to, rules)
     }
 
     /// The set of processes that have crashed or crash in `round`.
@@ -218,52 +267,70 @@ impl Run {
 
     /// What `rules` count of this run's rounds, and the counts that stand in the
     /// line of each process.
-    fn counts(&self, rules: &Rules) -> (Counts, Vec<Sent>) {
+    fn counts(&self, rules: &Rules) -> (Counts, Vec<Messages>) {
         let mut counts = Counts::default();
-        let mut sent = vec![(0, 0); usize::from(self.n)];
-        let last = self.last_round();
-        for (round, states) in (1..=last).map(rules.round_run).zip(&self.history) {
+        let mut counted = vec![(0, 0); usize::from(self.n)];
+        for (place, states) in (1..=self.last_round()).zip(&self.history) {
+            let round = (rules.round_run)(place);
             let goes_on = states.iter().any(|&state| (rules.is_undecided)(state));
             let coordinator = (rules.coordinator)(round, self.n);
             let speaks = (rules.speaks)(states[usize::from(coordinator) - 1]);
-            if (rules.round_counts)(goes_on, speaks) {
+            let (data, commits) = if speaks { self.messages(place, rules) } else { (0, 0) };
+            if (rules.round_counts)(goes_on, speaks, data) {
                 counts.rounds = round;
             }
-            if speaks {
-                let (data, commits) = self.messages(round, rules);
-                counts.speakers += 1;
-                counts.data += data;
-                counts.commits += commits;
-                // Charged to process r in round r, whoever is taken for its coordinator.
-                let by = &mut sent[usize::from(round) - 1];
-                *by = (by.0 + data, by.1 + commits);
-            }
+            counts.speakers += u64::from(speaks && (rules.speaker_counts)(data));
+            counts.data += data;
+            counts.commits += commits;
+            // Charged to process r in round r, whoever is taken for its coordinator.
+            let by = &mut counted[usize::from(round) - 1];
+            *by = (by.0 + data, by.1 + commits);
         }
         let (in_all, last_round) = ((counts.data, counts.commits), self.last_round());
         let shown = |(process, &end): (u8, &State)| {
-            (rules.shown)(&Line { process, end, sent: &sent, in_all, last_round })
+            (rules.shown)(&Line { process, end, counted: &counted, in_all, last_round })
         };
         let shown = (1..).zip(self.ends()).map(shown).collect();
         (counts, shown)
     }
 
-    /// The data messages and the commits that `rules` count of `round`, if its
-    /// coordinator speaks.
-    pub fn messages(&self, round: u8, rules: &Rules) -> Sent {
-        let line = self.fault((rules.coordinator)(round, self.n));
-        let crash = line.filter(|failure| failure.round == round).map(|failure| failure.crash);
-        ((rules.data_sent)(self.n, round, crash), (rules.commits_sent)(self.n, round, crash))
+    /// The data messages and the commits that `rules` count of the round that is
+    /// run in this place, if its coordinator speaks.
+    pub fn messages(&self, place: u8, rules: &Rules) -> Messages {
+        self.addressees(place, rules, |to, kind| {
+            (rules.is_sent)(to, kind) && (rules.is_carried)(to, kind)
+        })
     }
 
-    /// How many processes the data messages of `round` reach, and how many its
-    /// commits, if its coordinator speaks. Who has crashed is not looked at.
-    pub fn reached(&self, round: u8, rules: &Rules) -> Sent {
-        let fault = self.fault((rules.coordinator)(round, self.n));
-        let sending = Sending { n: self.n, round, crashed: 0 };
-        let reach = |to| reach(&sending, fault, to, rules);
-        let data = (1..=self.n).filter(|&to| reach(to) != Reach::None).count();
-        let commits = (1..=self.n).filter(|&to| reach(to) == Reach::All).count();
-        (data as u64, commits as u64)
+    /// How many processes the data messages of that round reach, and how many its
+    /// commits, of those that end in it or later: these began it up and undecided.
+    pub fn reached(&self, place: u8, rules: &Rules) -> Messages {
+        let ends_before = |process: u8| match self.ends()[usize::from(process) - 1] {
+            State::Undecided(_) => false,
+            State::Decided(round, _) | State::Crashed(round) => round < place,
+        };
+        self.addressees(place, rules, |to, kind| to.gets(kind) && !ends_before(to.process))
+    }
+
+    /// To how many processes a data message is counted by `is_counted` in the round
+    /// that is run in this place, and to how many a commit.
+    fn addressees(
+        &self,
+        place: u8,
+        rules: &Rules,
+        is_counted: impl Fn(&Addressee, Kind) -> bool,
+    ) -> Messages {
+        let round = (rules.round_run)(place);
+        let [before, after] = [place - 1, place].map(|rounds| &self.history[usize::from(rounds)]);
+        let sending = self.sending(round, before);
+        let mut count = (0, 0);
+        for (process, (&before, &after)) in (1..).zip(before.iter().zip(after)) {
+            let reach = self.reach(&sending, process, rules);
+            let to = Addressee { process, round, reach, before, after };
+            count.0 += u64::from(is_counted(&to, Kind::Data));
+            count.1 += u64::from(is_counted(&to, Kind::Commit));
+        }
+        count
     }
 
     /// The rounds that qualify for settling, in order. Round 0, and rounds after

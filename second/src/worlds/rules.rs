@@ -1,6 +1,6 @@
 //! The rules that a world is made of, and the right ones.
 
-use super::model::{Heard, Line, Reach, Run, Sending, Sent, State, Step};
+use super::model::{Addressee, Heard, Kind, Line, Messages, Reach, Run, Sending, State, Step};
 use crate::ticket::Crash;
 
 /// The rules of a world: which failure patterns there are, what happens in a
@@ -38,20 +38,25 @@ pub struct Rules {
     /// Whether a process in this state keeps the run going.
     pub is_undecided: fn(State) -> bool,
     /// Whether a round is one of the run's, from whether it began with an
-    /// undecided process and whether its coordinator is a speaker.
-    pub round_counts: fn(goes_on: bool, speaks: bool) -> bool,
+    /// undecided process, whether its coordinator is a speaker, and how many data
+    /// messages are counted of it.
+    pub round_counts: fn(goes_on: bool, speaks: bool, data: u64) -> bool,
     /// Whether a coordinator that begins its round in this state is a speaker.
     pub speaks: fn(State) -> bool,
-    /// The data messages of a speaker that crashes so in its round, or does not.
-    pub data_sent: fn(n: u8, round: u8, Option<Crash>) -> u64,
-    /// Its commits.
-    pub commits_sent: fn(n: u8, round: u8, Option<Crash>) -> u64,
+    /// Whether a speaker is counted, from how many data messages are counted of it.
+    pub speaker_counts: fn(data: u64) -> bool,
+    /// Whether a speaker sends a message of this kind to a process.
+    pub is_sent: fn(&Addressee, Kind) -> bool,
+    /// Whether the switch carries it, so that it is counted.
+    pub is_carried: fn(&Addressee, Kind) -> bool,
     /// The counts that stand in a process's line.
-    pub shown: fn(&Line) -> Sent,
+    pub shown: fn(&Line) -> Messages,
     /// Whether a failure line of a round is idle, from its process's end.
     pub is_idle: fn(round: u8, State) -> bool,
     /// Whether a failure line counts in f, from whether it is idle.
     pub counts_as_crash: fn(idle: bool) -> bool,
+    /// f, from how many lines count in it and the commits of the run.
+    pub f_counted: fn(lines: u8, commits: u64) -> u8,
 
     /// Whether a round may settle a run that has so many rounds and could have
     /// had rounds up to `last`.
@@ -81,10 +86,15 @@ pub struct Rules {
     pub most_speakers: fn(u8) -> u64,
     /// Claim: the most messages of a run.
     pub most_messages: fn(&Run) -> u64,
+    /// Claim: the most commits of a run.
+    pub most_commits: fn(&Run) -> u64,
+    /// Claim: to whom messages are counted, from the set to which they are sent and
+    /// that of the undecided as the round begins.
+    pub counted_among: fn(sent_to: u64, undecided: u64) -> u64,
     /// Claim: how many rounds are over in the states by which a process sends.
     pub sends_after: fn(process: u8) -> u8,
     /// Claim: the most data messages of a process, and the most commits.
-    pub most_sent: fn(n: u8, process: u8) -> u64,
+    pub most_of_process: fn(n: u8, process: u8) -> u64,
     /// Claim: the process whose counts are the first of the sums.
     pub summed_from: u8,
     /// Claim: whether a failure line is left in the ticket without idle lines,
@@ -104,7 +114,7 @@ pub struct Rules {
     pub alike: fn(first: u32, second: u32) -> bool,
 }
 
-/// The right rules (01, "The ticket" and "A round"; demand 3; 02, Paper 2).
+/// The right rules (01, "The ticket" and "A round"; demand 3; 02, Papers 2 and 4).
 pub const RIGHT: Rules = Rules {
     most_failures: |t| t,
     commit_step_in: |process, round| process == round,
@@ -120,13 +130,15 @@ pub const RIGHT: Rules = Rules {
     receives: right::receives,
     crashes: |step| State::Crashed(step.round),
     is_undecided: right::is_undecided,
-    round_counts: |goes_on, _| goes_on,
+    round_counts: |goes_on, _, _| goes_on,
     speaks: right::is_undecided,
-    data_sent: right::data_sent,
-    commits_sent: right::commits_sent,
+    speaker_counts: |_| true,
+    is_sent: Addressee::gets,
+    is_carried: |to, _| right::is_undecided(to.before),
     shown: |line| line.own(),
     is_idle: right::is_idle,
     counts_as_crash: |idle| !idle,
+    f_counted: |lines, _| lines,
     may_settle: |round, rounds, _| 1 <= round && round <= rounds,
     settled_at_end_of: |round| round,
     value_held: |state, _| right::value_held(state),
@@ -139,8 +151,10 @@ pub const RIGHT: Rules = Rules {
     ends_from: 1,
     most_speakers: |f| u64::from(f) + 1,
     most_messages: |run| right::bound_by_speakers(run.n, run.counts.speakers),
+    most_commits: |run| u64::from(run.n) - run.counts.speakers,
+    counted_among: |sent_to, undecided| sent_to & undecided,
     sends_after: |process| process - 1,
-    most_sent: |n, process| u64::from(n - process),
+    most_of_process: |n, process| u64::from(n - process),
     summed_from: 1,
     line_left: |idle| !idle,
     counts_paired: |first, second| first <= second,
@@ -188,24 +202,6 @@ pub mod right {
     /// Up and undecided.
     pub fn is_undecided(state: State) -> bool {
         matches!(state, State::Undecided(_))
-    }
-
-    /// n − r, or the ones of the set, or none.
-    pub fn data_sent(n: u8, round: u8, crash: Option<Crash>) -> u64 {
-        match crash {
-            None | Some(Crash::SendingCommits { .. }) => u64::from(n - round),
-            Some(Crash::SendingData { reached }) => u64::from(reached.count_ones()),
-            Some(Crash::BeforeSending) => 0,
-        }
-    }
-
-    /// n − r, or the count, or none.
-    pub fn commits_sent(n: u8, round: u8, crash: Option<Crash>) -> u64 {
-        match crash {
-            None => u64::from(n - round),
-            Some(Crash::SendingCommits { sent }) => u64::from(sent),
-            Some(Crash::BeforeSending | Crash::SendingData { .. }) => 0,
-        }
     }
 
     /// A line is idle if its process decided in an earlier round.

@@ -106,7 +106,7 @@ pub fn counterexample(claim: Claim, runs: &[TicketRun], rules: &Rules) -> Option
 /// A ticket paired with the first in which a process decides later, otherwise
 /// or not at all.
 fn paired_counterexample((first, run): &TicketRun, rules: &Rules) -> Option<Counterexample> {
-    let is_later = |second: &Ticket| !no_later(run, &Run::new(second, rules), rules);
+    let is_later = |second: &Ticket| !no_later(run, &Run::of_rounds(second, rules), rules);
     let second = paired_with(first, rules).into_iter().find(is_later)?;
     Some(Counterexample { first: first.clone(), second: Some(second) })
 }

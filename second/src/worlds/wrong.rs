@@ -1,14 +1,14 @@
 //! The wrong worlds, by the names of the gate's edits or in words.
 
 use super::claims::Claim::{self, *};
-use super::model::{Heard, Reach, Sending, State};
+use super::model::{Addressee, Heard, Kind, Reach, Sending, State};
 use super::rules::{right, Rules, RIGHT};
 use super::World;
 use crate::ticket::Crash;
 
 /// Every wrong world.
 pub fn worlds() -> impl Iterator<Item = &'static World> {
-    [PATTERNS, ROUNDS, MISTAKES, IMPOSTORS, COUNTS, SENT, SETTLING, CLAIMED, PAIRED]
+    [PATTERNS, ROUNDS, MISTAKES, IMPOSTORS, COUNTS, CARRIED, SHOWN, SETTLING, CLAIMED, PAIRED]
         .into_iter()
         .flatten()
 }
@@ -58,7 +58,7 @@ const ROUNDS: &[World] = &[
     ),
     world(
         "coordinator/commits-leave-before-the-data",
-        &[Agreement, NoLater, CountsReached, LastRoundSettles],
+        &[Agreement, NoLater, CountsBySets, LastRoundSettles],
         Rules {
             reach_of_crashing: |sending, crash, to| match right::reach_of_crashing(
                 sending, crash, to,
@@ -71,7 +71,7 @@ const ROUNDS: &[World] = &[
     ),
     world(
         "coordinator/commits-only-above-the-count",
-        &[NoLater, MessagesWithinBound, CountsReached],
+        &[NoLater, CountsBySets],
         Rules {
             reach_of_crashing: |sending, crash, to| {
                 commits_reach(sending, crash, to, |sent| to > sent)
@@ -97,13 +97,7 @@ const ROUNDS: &[World] = &[
     ),
     world(
         "coordinator/fault-of-another-round-cuts-commits",
-        &[
-            EarlyDecision,
-            SpeakersWithinBound,
-            MessagesWithinBound,
-            CountsReached,
-            IdleLinesChangeNothing,
-        ],
+        &[EarlyDecision, SpeakersWithinBound, CountsBySets, IdleLinesChangeNothing],
         Rules { reach_in_another_round: Reach::Data, ..RIGHT },
     ),
     world(
@@ -117,7 +111,7 @@ const ROUNDS: &[World] = &[
 const MISTAKES: &[World] = &[
     world(
         "coordinator/commits-go-upward",
-        &[Termination, EarlyDecision, NoLater, IdleLinesTakenOut],
+        &[Termination, EarlyDecision, NoLater, CountsBySets, IdleLinesTakenOut],
         Rules {
             reach_of_crashing: |sending, crash, to| {
                 commits_reach(sending, crash, to, |sent| to <= sending.round + sent)
@@ -138,7 +132,7 @@ const MISTAKES: &[World] = &[
     ),
     world(
         "coordinator/crashed-left-out-of-the-commit-list",
-        &[NoLater],
+        &[NoLater, CountsBySets],
         Rules { commit_list: |sending, to| sending.n - crashed_above(sending, to), ..RIGHT },
     ),
     world(
@@ -250,7 +244,15 @@ const IMPOSTORS: &[World] = &[
     ),
     world(
         "process n is taken for the coordinator",
-        &[Agreement, Termination, EarlyDecision, CountsSpeakers, CountsOwnRound, LastRoundSettles],
+        &[
+            Agreement,
+            Termination,
+            EarlyDecision,
+            CountsSpeakers,
+            CountsBySets,
+            CountsOwnRound,
+            LastRoundSettles,
+        ],
         Rules { coordinator: |_, n| n, ..RIGHT },
     ),
     world(
@@ -261,6 +263,7 @@ const IMPOSTORS: &[World] = &[
             CountsCrashed,
             CountsRounds,
             CountsSpeakers,
+            CountsBySets,
             CountsOwnRound,
             LastRoundSettles,
         ],
@@ -301,10 +304,9 @@ const COUNTS: &[World] = &[
         &[
             CountsRounds,
             CountsSpeakers,
-            CountsOwnRound,
             SpeakersWithinBound,
             MessagesWithinBound,
-            IdleLinesChangeNothing,
+            CommitsWithinBound,
         ],
         Rules {
             is_undecided: |state| !has_crashed(state),
@@ -317,108 +319,129 @@ const COUNTS: &[World] = &[
         &[
             SpeakersWithinBound,
             MessagesWithinBound,
+            CommitsWithinBound,
             CountsSpeakers,
             CountsOwnRound,
-            IdleLinesChangeNothing,
         ],
         Rules { speaks: |_| true, ..RIGHT },
     ),
     world(
         "coordinator/rounds-counted-after-the-end",
         &[CountsRounds],
-        Rules { round_counts: |_, _| true, ..RIGHT },
+        Rules { round_counts: |_, _, _| true, ..RIGHT },
     ),
     world(
         "coordinator/silent-rounds-not-counted",
         &[CountsRounds],
-        Rules { round_counts: |_, speaks| speaks, ..RIGHT },
-    ),
-    world(
-        "coordinator/data-counted-as-the-set-itself",
-        &[MessagesWithinBound, CountsReached, CountsThoseAbove],
-        Rules {
-            data_sent: |n, round, crash| match crash {
-                Some(Crash::SendingData { reached }) => reached,
-                _ => right::data_sent(n, round, crash),
-            },
-            ..RIGHT
-        },
-    ),
-    world(
-        "coordinator/unsent-data-counted",
-        &[CountsReached],
-        Rules {
-            data_sent: |n, round, crash| match crash {
-                Some(Crash::BeforeSending) => u64::from(n - round),
-                _ => right::data_sent(n, round, crash),
-            },
-            ..RIGHT
-        },
-    ),
-    world(
-        "coordinator/data-counted-as-the-commits",
-        &[CountsReached],
-        Rules {
-            data_sent: |n, round, crash| match crash {
-                Some(Crash::SendingCommits { sent }) => u64::from(sent),
-                _ => right::data_sent(n, round, crash),
-            },
-            ..RIGHT
-        },
-    ),
-    world(
-        "coordinator/unsent-commits-counted",
-        &[MessagesWithinBound, CountsReached],
-        Rules {
-            commits_sent: |n, round, crash| match crash {
-                Some(Crash::SendingCommits { .. }) => u64::from(n - round),
-                _ => right::commits_sent(n, round, crash),
-            },
-            ..RIGHT
-        },
-    ),
-    world(
-        "n - 1 data messages are counted for n - r",
-        &[MessagesWithinBound, CountsReached, CountsThoseAbove],
-        Rules {
-            data_sent: |n, round, crash| match crash {
-                None | Some(Crash::SendingCommits { .. }) => u64::from(n - 1),
-                _ => right::data_sent(n, round, crash),
-            },
-            ..RIGHT
-        },
-    ),
-    world(
-        "n - 1 commits are counted for n - r",
-        &[MessagesWithinBound, CountsReached, CountsThoseAbove],
-        Rules {
-            commits_sent: |n, round, crash| match crash {
-                None => u64::from(n - 1),
-                _ => right::commits_sent(n, round, crash),
-            },
-            ..RIGHT
-        },
-    ),
-    world(
-        "64 data messages are counted of any set",
-        &[MessagesWithinBound, CountsReached, CountsThoseAbove],
-        Rules {
-            data_sent: |n, round, crash| match crash {
-                Some(Crash::SendingData { .. }) => 64,
-                _ => right::data_sent(n, round, crash),
-            },
-            ..RIGHT
-        },
+        Rules { round_counts: |_, speaks, _| speaks, ..RIGHT },
     ),
     world(
         "rounds are not counted",
         &[CountsRounds, LastRoundSettles],
-        Rules { round_counts: |_, _| false, ..RIGHT },
+        Rules { round_counts: |_, _, _| false, ..RIGHT },
+    ),
+    world(
+        "coordinator/rounds-without-counted-data-left-out",
+        &[CountsRounds, LastRoundSettles],
+        Rules { round_counts: |_, _, data| data > 0, ..RIGHT },
+    ),
+    world(
+        "a coordinator of which nothing is carried is no speaker",
+        &[CountsSpeakers],
+        Rules { speaker_counts: |data| data > 0, ..RIGHT },
+    ),
+    world(
+        "coordinator/f-at-least-the-counted-commits",
+        &[CountsLines, CountsCrashed],
+        Rules { f_counted: |lines, commits| lines.max(commits as u8), ..RIGHT },
     ),
 ];
 
+/// Other messages counted (01, "A round"; 02, Paper 4).
+const CARRIED: &[World] = &[
+    world(
+        "coordinator/unsent-messages-counted",
+        &[CountsReached, CountsBySets, MessagesWithinBound, CommitsWithinBound],
+        Rules { is_sent: |to, _| to.process > to.round, ..RIGHT },
+    ),
+    world(
+        "coordinator/undecided-counted-as-data",
+        &[CountsReached, CountsBySets, MessagesWithinBound, CountsThoseAbove],
+        Rules { is_sent: |to, kind| kind == Kind::Data || to.gets(kind), ..RIGHT },
+    ),
+    world(
+        "coordinator/data-counted-as-the-commits",
+        &[CountsReached, CountsBySets],
+        Rules { is_sent: |to, _| to.gets(Kind::Commit), ..RIGHT },
+    ),
+    world(
+        "coordinator/unsent-commits-counted",
+        &[CountsReached, CountsBySets, MessagesWithinBound, CommitsWithinBound],
+        Rules { is_sent: |to, _| to.gets(Kind::Data), ..RIGHT },
+    ),
+    world(
+        "a coordinator is counted among those that it sends data to",
+        &[CountsReached, CountsBySets, MessagesWithinBound, CountsThoseAbove],
+        Rules { is_sent: |to, kind| is_own(to) && kind == Kind::Data || to.gets(kind), ..RIGHT },
+    ),
+    world(
+        "a coordinator is counted among those that it sends commits to",
+        &[CountsReached, CountsBySets, MessagesWithinBound, CommitsWithinBound, CountsThoseAbove],
+        Rules { is_sent: |to, kind| is_own(to) && kind == Kind::Commit || to.gets(kind), ..RIGHT },
+    ),
+    world(
+        "coordinator/every-addressee-counted",
+        &[CountsReached, CountsBySets, CommitsWithinBound],
+        Rules { is_carried: |_, _| true, ..RIGHT },
+    ),
+    world(
+        "data to the crashed and to the decided are counted",
+        &[CountsReached, CountsBySets],
+        Rules {
+            is_carried: |to, kind| kind == Kind::Data || right::is_undecided(to.before),
+            ..RIGHT
+        },
+    ),
+    world(
+        "commits to the crashed and to the decided are counted",
+        &[CountsReached, CountsBySets, CommitsWithinBound],
+        Rules {
+            is_carried: |to, kind| kind == Kind::Commit || right::is_undecided(to.before),
+            ..RIGHT
+        },
+    ),
+    world(
+        "coordinator/messages-to-the-crashed-counted",
+        &[CountsReached, CountsBySets, CommitsWithinBound],
+        Rules { is_carried: |to, _| !has_decided(to.before), ..RIGHT },
+    ),
+    world(
+        "coordinator/messages-to-the-decided-counted",
+        &[CountsReached, CountsBySets, CommitsWithinBound],
+        Rules { is_carried: |to, _| !has_crashed(to.before), ..RIGHT },
+    ),
+    world(
+        "coordinator/addressees-that-crash-in-the-round-left-out",
+        &[CountsReached, CountsBySets],
+        Rules {
+            is_carried: |to, _| right::is_undecided(to.before) && !has_crashed(to.after),
+            ..RIGHT
+        },
+    ),
+    world(
+        "coordinator/addressees-counted-as-the-round-ends",
+        &[CountsReached, CountsBySets],
+        Rules { is_carried: |to, _| right::is_undecided(to.after), ..RIGHT },
+    ),
+];
+
+/// Whether a process is the round's coordinator.
+fn is_own(to: &Addressee) -> bool {
+    to.process == to.round
+}
+
 /// Other counts by process (02, Paper 2).
-const SENT: &[World] = &[
+const SHOWN: &[World] = &[
     world(
         "coordinator/commits-kept-as-data-of-their-sender",
         &[CountsOwnRound, CountsAddUp],
@@ -428,7 +451,7 @@ const SENT: &[World] = &[
     world(
         "coordinator/messages-kept-for-the-next-process",
         &[CountsOwnRound, CountsThoseAbove],
-        Rules { shown: |line| line.sent_by(line.process - 1), ..RIGHT },
+        Rules { shown: |line| line.counted_of(line.process - 1), ..RIGHT },
     ),
     world(
         "coordinator/every-process-has-the-total",
@@ -454,7 +477,7 @@ const SENT: &[World] = &[
     world(
         "formats/counts-of-the-next-process",
         &[CountsOwnRound, CountsAddUp],
-        Rules { shown: |line| line.sent_by(line.process + 1), ..RIGHT },
+        Rules { shown: |line| line.counted_of(line.process + 1), ..RIGHT },
     ),
     world(
         "formats/total-in-every-line",
@@ -488,6 +511,10 @@ const SENT: &[World] = &[
 
 fn has_crashed(state: State) -> bool {
     matches!(state, State::Crashed(_))
+}
+
+fn has_decided(state: State) -> bool {
+    matches!(state, State::Decided(..))
 }
 
 /// Other rounds that qualify for settling.
@@ -598,6 +625,21 @@ const CLAIMED: &[World] = &[
         Rules { most_messages: |run| (RIGHT.most_messages)(run) + 1, ..RIGHT },
     ),
     world(
+        "coordinator/commit-bound-too-low",
+        &[CommitsWithinBound],
+        Rules { most_commits: |run| (RIGHT.most_commits)(run).saturating_sub(1), ..RIGHT },
+    ),
+    world(
+        "coordinator/commit-bound-too-high",
+        &[WorkedRun("case 1")],
+        Rules { most_commits: |run| (RIGHT.most_commits)(run) + 1, ..RIGHT },
+    ),
+    world(
+        "coordinator/ones-of-the-set-alone",
+        &[CountsBySets],
+        Rules { counted_among: |sent_to, _| sent_to, ..RIGHT },
+    ),
+    world(
         "coordinator/counted-as-the-round-ends",
         &[CountsOwnRound],
         Rules { sends_after: |process| process, ..RIGHT },
@@ -606,7 +648,7 @@ const CLAIMED: &[World] = &[
     world(
         "coordinator/one-message-fewer-than-processes-above",
         &[CountsThoseAbove],
-        Rules { most_sent: |n, process| u64::from(n - process).saturating_sub(1), ..RIGHT },
+        Rules { most_of_process: |n, process| u64::from(n - process).saturating_sub(1), ..RIGHT },
     ),
     world(
         "coordinator/every-line-taken-out",
@@ -618,20 +660,7 @@ const CLAIMED: &[World] = &[
         &[IdleLinesTakenOut],
         Rules { line_left: |_| true, ..RIGHT },
     ),
-    world(
-        "formats/bound-of-theorem-2",
-        &[MessagesWithinBound],
-        Rules {
-            most_messages: |run| bound_of_theorem_2(u64::from(run.n), u64::from(run.f)),
-            ..RIGHT
-        },
-    ),
 ];
-
-/// Document 001's (f + 1)(2n − 1 − 3f/2).
-fn bound_of_theorem_2(n: u64, f: u64) -> u64 {
-    (f + 1) * (4 * n - 2).saturating_sub(3 * f) / 2
-}
 
 /// Other pairs of tickets.
 const PAIRED: &[World] = &[

@@ -67,8 +67,8 @@ returns c =
     let decided = crashed .before .before in
     let adopted = decided .before .before in
     let commits = adopted .before .before .before in
-    let data-sent = commits .before in
-    let speaking = data-sent .before in
+    let data-sent = commits .before .before in
+    let speaking = data-sent .before .before in
     let sending = speaking .before .before in
     let start = sending .before .before in
     round-from _ _ _ _ _ _ (sized start) (start .pre) _ (sending .sending .ensures) _ (speaking .speakers-in .ensures)

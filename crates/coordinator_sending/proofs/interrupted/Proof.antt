@@ -3,7 +3,7 @@ use mathlib.Core.Path.{refl, _∙_}
 use native.Mathlib.Omega.{arith}
 use borrow.Author.Needs.{needs}
 use Rattle.general.proofs.Sets.{only-set}
-use Rattle.coordinator_sending.proofs.Reached.{spoken, no-data, no-commits, some-data, no-commit-yet, all-data, count-allowed, some-commits}
+use Rattle.coordinator_sending.proofs.Reached.{spoken, nothing-sent, data-interrupted, commits-interrupted, count-allowed}
 use Rattle.coordinator_sending.proofs.interrupted.Statement.{statement}
 use Rattle.coordinator_sending.proofs.interrupted.Tie as tie
 
@@ -12,14 +12,15 @@ only-requires c κs = search needs
 
 returns : tie.Need-returns
 returns c =
-    spoken _ _ _ _ refl _ _ _ (c .before .only .ensures ∙ only-set _ _ (omega arith) (omega arith))
-    (no-data _ _ _ _ _ (omega arith)) (no-commits _ _ _ _ _ (omega arith))
+    let own = c .before in
+    let sent = nothing-sent _ _ _ _ _ (own .before .pre .3) (omega arith) in
+    spoken _ _ _ _ refl _ _ _ (own .only .ensures ∙ only-set _ _ (omega arith) (omega arith)) (sent .0) (sent .1)
 
 returns-2 : tie.Need-returns-2
 returns-2 c =
     let own = c .before .before in
-    spoken _ _ _ _ refl _ _ _ (own .only .ensures ∙ only-set _ _ (omega arith) (omega arith))
-    (some-data _ _ _ _ _ (own .before .pre .3) (omega arith)) (no-commit-yet _ _ _ _ _ (omega arith))
+    let sent = data-interrupted _ _ _ _ _ (own .before .pre .3) (omega arith) in
+    spoken _ _ _ _ refl _ _ _ (own .only .ensures ∙ only-set _ _ (omega arith) (omega arith)) (sent .0) (sent .1)
 
 above-requires : tie.Need-above-requires
 above-requires c κs = search needs
@@ -38,9 +39,9 @@ above-requires-2 c κs =
 returns-3 : tie.Need-returns-3
 returns-3 c =
     let own = c .before .before .before .before in
+    let sent = commits-interrupted _ _ _ _ _ (own .before .pre .3) (search needs) (search needs) in
     spoken _ _ _ _ refl _ _ _ (own .only .ensures ∙ only-set _ _ (omega arith) (omega arith))
-    (c .before .above .ensures ∙ all-data _ _ _ _ _ (search needs) (search needs))
-    (c .above2 .ensures ∙ some-commits _ _ _ _ _ (own .before .pre .3) (search needs) (search needs))
+    (c .before .above .ensures ∙ sent .0) (c .above2 .ensures ∙ sent .1)
 
 pub interrupted-spec : {M : Type 1} → statement M
 interrupted-spec =

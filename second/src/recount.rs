@@ -1,0 +1,101 @@
+//! The counts of a result by another way than the simulation's: read off the
+//! ticket and how the processes end, by sets and not message by message. Tests
+//! hold counts to it, those of the rule before Paper 4 too.
+
+use crate::process::{Carried, Status};
+use crate::ticket::{Crash, Ticket};
+
+/// The round in which a process ends; none has ended that is active.
+pub fn end_round(end: Status) -> u8 {
+    match end {
+        Status::Decided(round) | Status::Crashed(round) => round,
+        Status::Active => u8::MAX,
+    }
+}
+
+/// The processes to which `sender` sends data, and those to which it sends
+/// commits, if the processes end so. It sends in its own round alone, and so
+/// nothing if it ends before.
+pub fn recipients(ticket: &Ticket, ends: &[Status], sender: u8) -> [Vec<u8>; 2] {
+    let above: Vec<u8> = (sender + 1..=ticket.n).collect();
+    let line = ticket.failures.iter().find(|failure| failure.process == sender);
+    match (ends[usize::from(sender) - 1], line.map(|failure| failure.crash)) {
+        (end, _) if end_round(end) != sender => [Vec::new(), Vec::new()],
+        (Status::Crashed(_), Some(Crash::BeforeSending)) => [Vec::new(), Vec::new()],
+        (Status::Crashed(_), Some(Crash::SendingData { reached })) => {
+            let gets = |to: &u8| reached >> (to - 1) & 1 == 1;
+            [above.into_iter().filter(gets).collect(), Vec::new()]
+        }
+        (Status::Crashed(_), Some(Crash::SendingCommits { sent })) => {
+            [above, (ticket.n - sent + 1..=ticket.n).collect()]
+        }
+        _ => [above.clone(), above],
+    }
+}
+
+/// How many messages of `sender` go to processes that end as `is_counted` says.
+pub fn counted(
+    ticket: &Ticket,
+    ends: &[Status],
+    sender: u8,
+    is_counted: impl Fn(Status) -> bool,
+) -> Carried {
+    let [data, commits] = recipients(ticket, ends, sender).map(|recipients| {
+        let ends = recipients.into_iter().map(|to| ends[usize::from(to) - 1]);
+        ends.filter(|&end| is_counted(end)).count() as u8
+    });
+    Carried { data, commits }
+}
+
+#[cfg(test)]
+mod tests {
+    use super::*;
+    use crate::patterns::failure_patterns;
+    use crate::process::Process;
+    use crate::simulation::Simulation;
+
+    fn run(ticket: &Ticket) -> (Vec<Status>, Vec<Carried>) {
+        let mut simulation = Simulation::new(ticket);
+        simulation.run(|_, _| {});
+        let processes = simulation.processes().iter();
+        (
+            processes.clone().map(Process::status).collect(),
+            processes.map(Process::carried).collect(),
+        )
+    }
+
+    /// What document 01 counts: "n − r, or, in step 01, the number of ones in its
+    /// set, or 0 in step 00. Commits are n − r, or the count."
+    fn sent(ticket: &Ticket, end: Status, id: u8) -> Carried {
+        let above = ticket.n - id;
+        let line = ticket.failures.iter().find(|failure| failure.process == id);
+        let (data, commits) = match (end, line.map(|failure| failure.crash)) {
+            (end, _) if end_round(end) != id => (0, 0),
+            (Status::Crashed(_), Some(Crash::BeforeSending)) => (0, 0),
+            (Status::Crashed(_), Some(Crash::SendingData { reached })) => {
+                (reached.count_ones() as u8, 0)
+            }
+            (Status::Crashed(_), Some(Crash::SendingCommits { sent })) => (above, sent),
+            _ => (above, above),
+        };
+        Carried { data, commits }
+    }
+
+    #[test]
+    fn every_small_run_is_recounted() {
+        for (n, t) in [(1, 0), (2, 1), (3, 2), (4, 3)] {
+            for failures in failure_patterns(n, t) {
+                let proposals = (1..=u32::from(n)).collect();
+                let ticket = Ticket { n, t, proposals, failures };
+                let (ends, carried) = run(&ticket);
+                for (id, &carried) in (1..).zip(&carried) {
+                    let end = ends[usize::from(id) - 1];
+                    let all = counted(&ticket, &ends, id, |_| true);
+                    assert_eq!(all, sent(&ticket, end, id), "process {id} of {ticket}");
+                    let up = counted(&ticket, &ends, id, |end| end_round(end) >= id);
+                    assert_eq!(up, carried, "process {id} of {ticket}");
+                }
+            }
+        }
+    }
+}
