@@ -38,9 +38,9 @@ pub fn case(number: u8) -> Ticket {
     }
 }
 
-/// The runs worked out by hand: cases 1 to 9, and five that show what no case
+/// The runs worked out by hand: cases 1 to 9, and six that show what no case
 /// does. They are those of `../crates/coordinator/specs/WorkedTable.antt`.
-pub fn runs() -> [(&'static str, Ticket); 14] {
+pub fn runs() -> [(&'static str, Ticket); 15] {
     let silent = Failure::before_sending;
     let three = Ticket { n: 3, t: 2, proposals: vec![10, 20, 30], failures: vec![] };
     let three_crash = vec![Failure::sending_commits(1, 1), silent(2, 1), silent(3, 2)];
@@ -59,13 +59,14 @@ pub fn runs() -> [(&'static str, Ticket); 14] {
         ("no commit", four(vec![Failure::sending_commits(1, 0)])),
         ("two reached", four(vec![Failure::sending_data(1, 0b0110)])),
         ("each kind of addressee", each_kind_of_addressee()),
+        ("one commit of two", one_commit_of_two()),
     ]
 }
 
 /// In round 2 process 2 sends data to one that stays up, one that crashes in that
 /// round, one that has crashed and one that has decided (02, Paper 4); in round 3
 /// process 3 sends to none that is up and undecided.
-fn each_kind_of_addressee() -> Ticket {
+pub fn each_kind_of_addressee() -> Ticket {
     let failures = vec![
         Failure::sending_commits(1, 1),
         Failure::sending_data(2, 0b11_1100),
@@ -73,6 +74,18 @@ fn each_kind_of_addressee() -> Ticket {
         Failure::before_sending(5, 1),
     ];
     Ticket { n: 6, t: 4, proposals: vec![10, 20, 30, 40, 50, 60], failures }
+}
+
+/// In round 2 of the two commits of process 2 one goes to a process that has
+/// decided (02, Paper 4); in round 3 process 3, which stays up, sends to one that
+/// crashes in that round and to two that have decided.
+pub fn one_commit_of_two() -> Ticket {
+    let failures = vec![
+        Failure::sending_commits(1, 1),
+        Failure::sending_commits(2, 2),
+        Failure::before_sending(4, 3),
+    ];
+    Ticket { n: 6, t: 3, proposals: vec![10, 20, 30, 40, 50, 60], failures }
 }
 
 #[cfg(test)]
@@ -204,6 +217,14 @@ mod tests {
                       1203040300070001\n";
         let ticket = each_kind_of_addressee().text();
         assert_eq!(Simulator::new().print(&ticket, 2000), result);
+    }
+
+    #[test]
+    fn one_commit_of_two_whole() {
+        let result = "11010201000000000501\n11020202000000000301\n110301030000000A0101\n\
+                      11040203000000000000\n110501020000000A0000\n110601010000000A0000\n\
+                      1203030300090003\n";
+        assert_eq!(Simulator::new().print(&one_commit_of_two().text(), 2000), result);
     }
 
     #[test]

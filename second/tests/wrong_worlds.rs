@@ -116,7 +116,7 @@ type Figures = (&'static str, [u64; 5], (u8, u64, u64), &'static [u8], &'static 
 
 #[test]
 fn the_figures_of_the_worked_runs() {
-    let figures: [Figures; 14] = [
+    let figures: [Figures; 15] = [
         ("case 1", [2, 1, 2, 4, 2], (2, 9, 2), &[1, 2], &[(3, 1), (1, 1)]),
         ("case 2", [1, 0, 1, 0, 0], (1, 0, 0), &[1], &[]),
         ("case 3", [1, 1, 1, 3, 3], (2, 6, 3), &[1], &[(3, 3)]),
@@ -137,6 +137,7 @@ fn the_figures_of_the_worked_runs() {
         ("no commit", [2, 1, 2, 5, 2], (2, 9, 2), &[1, 2], &[(3, 0), (2, 2)]),
         ("two reached", [2, 1, 2, 4, 2], (2, 9, 2), &[2], &[(2, 0), (2, 2)]),
         ("each kind of addressee", [3, 4, 3, 7, 1], (5, 21, 3), &[1, 2, 3], &[(5, 1), (2, 0)]),
+        ("one commit of two", [3, 3, 3, 9, 3], (4, 21, 3), &[1, 2, 3], &[(5, 1), (3, 1), (1, 1)]),
     ];
     assert_eq!(figures.map(|(name, ..)| name), worked::runs().map(|(name, _)| name));
     for (name, counted, limits, settling_rounds, shown) in figures {
@@ -220,7 +221,7 @@ fn other_messages_counted_in_cases_1_and_9() {
     // Process 7 sends in round 7 to 8, 9 and 10 alone.
     let rounds = said("coordinator/rounds-without-counted-data-left-out", "case 9");
     assert_eq!(rounds.counts.rounds, 6);
-    let speakers = said("a coordinator of which nothing is carried is no speaker", "case 9");
+    let speakers = said("coordinator/speakers-without-counted-data-left-out", "case 9");
     assert_eq!(speakers.counts.speakers, 6);
     assert_eq!(said("coordinator/f-at-least-the-counted-commits", "case 8").f, 3);
 }

@@ -91,4 +91,4 @@ speaker-bound x formed =
     let end = bounded x formed last (omega arith) in
     let fit : runTo x last .speakers ≤ x .processes = omega (arith, speakers-le x last) in
     let few : runTo x last .commitsSent ≤ x .processes - runTo x last .speakers = omega (arith, speakers-with-commits x last (omega arith)) in
-    record { speakers = end .speakers; speakersFit = fit; messages = halved _ _ _ (total _ _ _ _ fit (end .estimates) (end .no-commits) few); commits = few }
+    record { speakers = end .speakers; speakersFit = fit; messages = halved _ _ _ (total _ _ _ _ fit (end .estimates) (end .no-commits) few); commits = omega (arith, few) }

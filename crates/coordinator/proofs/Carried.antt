@@ -1,6 +1,6 @@
--- The messages carried in a round: they are the ones of two sets taken together, those whom they reach and the undecided; at most as many as there are
--- processes above its coordinator; and each commit that is carried, and each speaker, leaves one process fewer up and undecided. Of any instance and any
--- states. Assumes nothing.
+-- The messages carried in a round: as many as the ones that two sets have in common, those whom they reach and the undecided; at most as many as there
+-- are processes above its coordinator; and each commit that is carried, and each speaker, leaves one process fewer up and undecided. Of any instance and
+-- any states. Assumes nothing.
 use mathlib.Core.List.{List}
 use mathlib.Core.Path.{_≡_, refl, sym, ap, ap₂, _∙_}
 use mathlib.Core.Bool.{Bool, true, false, cond, _&&_}
@@ -23,13 +23,12 @@ use Rattle.coordinator.specs.Message.{Reach, none, dataOnly, all, arrivi
 use Rattle.coordinator.specs.Transition.{sends, receives}
 use Rattle.coordinator.specs.Delivery.{reachIn, reach}
 use Rattle.coordinator.specs.Round.{sentBy, received, afterOutcome, after, statesAfter}
-use Rattle.coordinator.specs.Undecided.{isUndecided}
+use Rattle.coordinator.specs.Undecided.{isUndecided, undecidedAmong}
 use Rattle.coordinator.specs.Count.{speaks, carries, carriedIn, dataIn, commitsIn}
-use Rattle.coordinator.specs.CountsBySets.{undecidedAmong}
 use Rattle.coordinator.proofs.Undecided.{value-of-undecided}
 use Rattle.coordinator.proofs.SentSets.{reachedSet, none-to-itself}
 
--- Of a set by a test, taken together with the undecided: its size is how many of the states are undecided, of a process that passes.
+-- What the set of those that pass a test and the undecided have in common: as many as there are states that are undecided, of a process that passes.
 pub undecided-size : (n : ℕ) (test : ℕ → Bool) (states : List State) → length states ≡ n → n ≤ 64
     → ones64 (bitAnd (setOf n test) (undecidedAmong n states)) ≡ countFrom (λ p s. isUndecided s && test p) 1 states
 unfolding stateOf
@@ -96,8 +95,8 @@ commits-in-le x r states = carried-le _ refl x r states
 unfoldable pub undecidedCount : List State → ℕ
 undecidedCount states = countFrom (λ p s. isUndecided s) 1 states
 
--- One process that begins round r undecided, whose coordinator sends w: it coordinates, or it gets the commit, or it is at most still undecided. Of a
--- process that crashes in the round the commit that is sent to it counts, and it is not undecided after it.
+-- A process that begins round r undecided, in which w is sent, is at most one of three: the coordinator, one to whom the commit is sent, or undecided after
+-- the round. One that crashes in the round is not undecided after it, be the commit sent to it or not.
 ends-once : (r v w : ℕ) (crashes coordinates : Bool) (far : Reach) → (coordinates ≡ true → far ≡ none)
     → cond (isUndecided (cond crashes (crashed r) (afterOutcome r (receives coordinates v (arriving far (sends true w)))))) 1 0
     + cond coordinates 1 0 + cond (getsCommit far) 1 0 ≤ 1

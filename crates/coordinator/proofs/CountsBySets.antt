@@ -1,5 +1,5 @@
--- The messages counted in a round are the ones of two sets taken together, those to whom they are sent and the undecided. For well-formed instances.
--- Assumes nothing else.
+-- The messages counted in a round are as many as the ones that two sets have in common, those to whom they are sent and the undecided. For well-formed
+-- instances. Assumes nothing else.
 use mathlib.Core.Path.{_≡_, _∙_}
 use Prim.Native.Nat.{ℕ, _≤_}
 use Rattle.consensus.specs.Instance.{Instance, crashes, CrashPoint, faultOf}
@@ -7,7 +7,7 @@ use Rattle.consensus.specs.WellFormed.{FaultAllowedBy}
 use Rattle.coordinator.specs.Message.{getsData, getsCommit}
 use Rattle.coordinator.specs.Count.{dataIn, commitsIn}
 use Rattle.coordinator.specs.WellFormed.{WellFormed, PointAllowed}
-use Rattle.coordinator.specs.CountsBySets.{CountedBySet, CountsBySets}
+use Rattle.coordinator.specs.CountsBySets.{onesInCommon, CountedBySet, CountsBySets}
 use Rattle.coordinator.proofs.SentSets.{data-sent-set, commits-sent-set}
 use Rattle.coordinator.proofs.Carried.{carried-size}
 
@@ -17,7 +17,7 @@ module _ (x : Instance) (formed : WellFormed x) where
   point-allowed r h g point e = (rw e at (formed .faults-allowed r h g)) .2
 
   pub counts-by-sets : CountsBySets x
-  unfolding CountedBySet dataIn commitsIn
+  unfolding CountedBySet onesInCommon dataIn commitsIn
   counts-by-sets =
       record {
         ofData = λ r states h g as-many.

@@ -11,13 +11,9 @@ use lib.Dec.{eqb, ltb}
 use lib.ListN.{length}
 use Rattle.general.specs.Bits.{ones64, setOf}
 use Rattle.consensus.specs.Instance.{Instance, Fault, correct, crashes, CrashPoint, beforeSending, duringData, duringCommits, faultOf}
-use Rattle.consensus.specs.State.{State, stateOf}
-use Rattle.coordinator.specs.Undecided.{isUndecided}
+use Rattle.consensus.specs.State.{State}
+use Rattle.coordinator.specs.Undecided.{undecidedAmong}
 use Rattle.coordinator.specs.Count.{speaks, dataIn, commitsIn}
-
--- The set of the processes up and undecided, of n.
-abbrev pub undecidedAmong : (n : ℕ) → List State → ℕ
-undecidedAmong n states = setOf n (λ p. isUndecided (stateOf states p))
 
 -- The set of the processes above p, of n.
 abbrev pub aboveSet : (n p : ℕ) → ℕ
@@ -39,11 +35,15 @@ unfoldable pub sentSet : (at : (n r : ℕ) → CrashPoint → ℕ) → (n r : �
 sentSet at n r correct = aboveSet n r
 sentSet at n r (crashes round point) = cond (eqb round r) (at n r point) (aboveSet n r)
 
--- What is counted in a round, whatever the states of the n processes as it began, are the ones of that set and the undecided.
+-- The ones that this set and that of the undecided have in common, in round r that began with these states; none if its coordinator is no speaker.
+unfoldable pub onesInCommon : (at : (n r : ℕ) → CrashPoint → ℕ) → Instance → (r : ℕ) → List State → ℕ
+onesInCommon at x r states =
+    cond (speaks r states) (ones64 (bitAnd (sentSet at (x .processes) r (faultOf x r)) (undecidedAmong (x .processes) states))) 0
+
+-- So many messages are counted in a round, whatever the states of the n processes as it began.
 unfoldable pub CountedBySet : (counted : Instance → ℕ → List State → ℕ) → (at : (n r : ℕ) → CrashPoint → ℕ) → Instance → Type 0
 CountedBySet counted at x =
-    (r : ℕ) (states : List State) → 1 ≤ r → r ≤ x .processes → length states ≡ x .processes
-    → counted x r states ≡ cond (speaks r states) (ones64 (bitAnd (sentSet at (x .processes) r (faultOf x r)) (undecidedAmong (x .processes) states))) 0
+    (r : ℕ) (states : List State) → 1 ≤ r → r ≤ x .processes → length states ≡ x .processes → counted x r states ≡ onesInCommon at x r states
 
 -- The claim, of a well-formed instance: so it is with the data messages and with the commit messages.
 pub record CountsBySets (x : Instance) : Type 0 where

@@ -13,8 +13,15 @@ boundBySpeakers n k = k * (2 * n - k - 1) - k * (k - 1) / 2
 abbrev pub commitsBySpeakers : (n k : ℕ) → ℕ
 commitsBySpeakers n k = n - k
 
+-- The most messages that may count in an instance's run, by its speakers, and the most commits.
+abbrev pub mostMessages : Instance → ℕ
+mostMessages x = boundBySpeakers (x .processes) (runOf x .speakers)
+
+abbrev pub mostCommits : Instance → ℕ
+mostCommits x = commitsBySpeakers (x .processes) (runOf x .speakers)
+
 pub record SpeakerBound (x : Instance) : Type 0 where
   pub speakers : runOf x .speakers ≤ suc (crashesOf x)
   pub speakersFit : runOf x .speakers ≤ x .processes
-  pub messages : runOf x .dataSent + runOf x .commitsSent ≤ boundBySpeakers (x .processes) (runOf x .speakers)
-  pub commits : runOf x .commitsSent ≤ commitsBySpeakers (x .processes) (runOf x .speakers)
+  pub messages : runOf x .dataSent + runOf x .commitsSent ≤ mostMessages x
+  pub commits : runOf x .commitsSent ≤ mostCommits x

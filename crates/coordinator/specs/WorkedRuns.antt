@@ -2,16 +2,18 @@
 use mathlib.Core.List.{List, [], _∷_, _++_}
 use mathlib.Core.Path.{_≡_}
 use mathlib.Core.Bool.{cond}
-use Prim.Native.Nat.{ℕ, zero, suc}
+use Prim.Native.Nat.{ℕ, zero, suc, _-_}
 use lib.ListN.{length}
-use Rattle.consensus.specs.Instance.{Instance}
-use Rattle.coordinator.specs.Run.{lastRound, runOf, crashesOf, latestOf}
+use Rattle.consensus.specs.Instance.{Instance, CrashPoint, faultOf}
+use Rattle.coordinator.specs.Undecided.{undecidedAmong}
+use Rattle.coordinator.specs.Run.{runTo, lastRound, runOf, crashesOf, latestOf}
+use Rattle.coordinator.specs.CountsBySets.{dataSetAt, commitSetAt, sentSet, onesInCommon}
 use Rattle.coordinator.specs.MessagesBySender.{dataBy, commitsBy}
 use Rattle.coordinator.specs.Settling.{qualifies}
-use Rattle.coordinator.specs.SpeakerBound.{boundBySpeakers, commitsBySpeakers}
+use Rattle.coordinator.specs.SpeakerBound.{mostMessages, mostCommits}
 use Rattle.consensus.specs.FourProcesses.{afterOneCommit, idleBesides}
 use Rattle.coordinator.specs.IdleLines.{withoutIdle}
-use Rattle.coordinator.specs.WorkedTable.{WorkedRun, workedRuns}
+use Rattle.coordinator.specs.WorkedTable.{WorkedRun, setPartlyCounted, commitsPartlyCounted, workedRuns}
 
 -- The rounds that qualify, of rounds 0 to r.
 unfoldable pub qualifyingTo : Instance → ℕ → List ℕ
@@ -31,8 +33,7 @@ worked x =
       counts = runOf x .rounds ∷ crashesOf x ∷ runOf x .speakers ∷ runOf x .dataSent ∷ runOf x .commitsSent ∷ [];
       dataBy = dataBy x;
       commitsBy = commitsBy x;
-      limits =
-          latestOf x ∷ boundBySpeakers (x .processes) (runOf x .speakers) ∷ commitsBySpeakers (x .processes) (runOf x .speakers) ∷ [];
+      limits = latestOf x ∷ mostMessages x ∷ mostCommits x ∷ [];
       settling = qualifyingRounds x;
     }
 
@@ -41,10 +42,21 @@ unfoldable pub AsWorked : List WorkedRun → Type 0
 AsWorked [] = Unit {0}
 AsWorked (w ∷ runs) = (worked (w .run) ≡ w) × AsWorked runs
 
--- The claim: so are the 14 runs of the table.
+-- Round r by sets: those to whom its coordinator sends, the undecided as it begins, and how many ones these have in common. (Process p is bit p - 1.)
+unfoldable pub setsIn : (at : (n r : ℕ) → CrashPoint → ℕ) → Instance → (r : ℕ) → List ℕ
+setsIn at x r =
+    sentSet at (x .processes) r (faultOf x r) ∷ undecidedAmong (x .processes) (runTo x (r - 1) .states) ∷ onesInCommon at x r (runTo x (r - 1) .states) ∷ []
+
+-- The claim: so are the 15 runs of the table.
 pub record WorkedRuns : Type 0 where
-  pub number : length workedRuns ≡ 14
+  pub number : length workedRuns ≡ 15
   pub asWorked : AsWorked workedRuns
   -- case 7 without its idle line is case 1, and the line of case 1 is not idle
   pub idleTakenOut : withoutIdle idleBesides ≡ afterOneCommit
   pub otherLeft : withoutIdle afterOneCommit ≡ afterOneCommit
+  -- rounds by sets, in which some of those that are sent to have ended: of a coordinator that crashes at step 01 the data and the commits, of one at step
+  -- 02 the commits, and of one that does not crash the data
+  pub dataAtStep1 : setsIn dataSetAt (setPartlyCounted .run) 2 ≡ 60 ∷ 14 ∷ 2 ∷ []
+  pub commitsAtStep1 : setsIn commitSetAt (setPartlyCounted .run) 2 ≡ 0 ∷ 14 ∷ 0 ∷ []
+  pub commitsAtStep2 : setsIn commitSetAt (commitsPartlyCounted .run) 2 ≡ 48 ∷ 30 ∷ 1 ∷ []
+  pub dataOfCorrect : setsIn dataSetAt (commitsPartlyCounted .run) 3 ≡ 56 ∷ 12 ∷ 1 ∷ []

@@ -18,7 +18,7 @@ pub record WorkedRun : Type 0 where
   -- the data messages that each process sent and that count, and the commit messages
   pub dataBy : List ℕ
   pub commitsBy : List ℕ
-  -- the last round in which one may decide, f + 1, the most messages that so many speakers may send, and the most commits
+  -- the last round in which one may decide, f + 1, the most messages that may count with so many speakers, and the most commits
   pub limits : List ℕ
   -- the rounds that qualify for settling
   pub settling : List ℕ
@@ -133,10 +133,10 @@ twoReached =
     row (firstCrashes (duringData 6)) (crashed 1 ∷ decided 2 10 ∷ decided 2 10 ∷ decided 2 10 ∷ [])
     (2 ∷ 1 ∷ 2 ∷ 4 ∷ 2 ∷ []) (2 ∷ 2 ∷ 0 ∷ 0 ∷ []) (0 ∷ 2 ∷ 0 ∷ 0 ∷ []) (2 ∷ 9 ∷ 2 ∷ []) (2 ∷ [])
 
--- Of the data of process 2, which reach processes 3 to 6, two messages count: process 6 has decided, process 5 crashed in round 1, and process 4, which
--- crashes in this very round, began it up and undecided. Of process 3 none counts, for all above it have ended.
-abbrev pub twoDropped : WorkedRun
-twoDropped =
+-- In round 2 data are sent to the set of processes 3 to 6, and those to processes 3 and 4 count: process 4 crashes in this very round, process 5 crashed in
+-- round 1, and process 6 has decided. In round 3 process 3 sends to processes that have all ended, and nothing counts.
+abbrev pub setPartlyCounted : WorkedRun
+setPartlyCounted =
     row
     (record {
       processes = 6;
@@ -147,8 +147,22 @@ twoDropped =
     (crashed 1 ∷ crashed 2 ∷ decided 3 10 ∷ crashed 2 ∷ crashed 1 ∷ decided 1 10 ∷ [])
     (3 ∷ 4 ∷ 3 ∷ 7 ∷ 1 ∷ []) (5 ∷ 2 ∷ 0 ∷ 0 ∷ 0 ∷ 0 ∷ []) (1 ∷ 0 ∷ 0 ∷ 0 ∷ 0 ∷ 0 ∷ []) (5 ∷ 21 ∷ 3 ∷ []) (1 ∷ 2 ∷ 3 ∷ [])
 
+-- In round 2 commits are sent to processes 6 and 5, and that to process 5 counts: process 6 has decided. In round 3 what process 3, which does not crash, sends
+-- to process 4 counts, although process 4 crashes in that round; processes 5 and 6 have decided. The bound on commits is met.
+abbrev pub commitsPartlyCounted : WorkedRun
+commitsPartlyCounted =
+    row
+    (record {
+      processes = 6;
+      resilience = 3;
+      proposals = 10 ∷ 20 ∷ 30 ∷ 40 ∷ 50 ∷ 60 ∷ [];
+      pattern = crashes 1 (duringCommits 1) ∷ crashes 2 (duringCommits 2) ∷ correct ∷ crashes 3 beforeSending ∷ correct ∷ correct ∷ [];
+    })
+    (crashed 1 ∷ crashed 2 ∷ decided 3 10 ∷ crashed 3 ∷ decided 2 10 ∷ decided 1 10 ∷ [])
+    (3 ∷ 3 ∷ 3 ∷ 9 ∷ 3 ∷ []) (5 ∷ 3 ∷ 1 ∷ 0 ∷ 0 ∷ 0 ∷ []) (1 ∷ 1 ∷ 1 ∷ 0 ∷ 0 ∷ 0 ∷ []) (4 ∷ 21 ∷ 3 ∷ []) (1 ∷ 2 ∷ 3 ∷ [])
+
 -- All of them.
 unfoldable pub workedRuns : List WorkedRun
 workedRuns =
     case1 ∷ case2 ∷ case3 ∷ case4 ∷ case5 ∷ case6 ∷ case7 ∷ case8 ∷ case9 ∷ crashesLater ∷ silentAtLast ∷ noCommit ∷ twoReached
-    ∷ twoDropped ∷ []
+    ∷ setPartlyCounted ∷ commitsPartlyCounted ∷ []

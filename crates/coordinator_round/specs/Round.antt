@@ -5,10 +5,9 @@ use mathlib.Core.Bool.{true}
 use Rattle.general.specs.Bits.{setOf}
 use Rattle.consensus.specs.Instance.{Instance, Fault, faultOf}
 use Rattle.consensus.specs.State.{crashesIn}
-use Rattle.coordinator.specs.Undecided.{anyUndecided}
+use Rattle.coordinator.specs.Undecided.{anyUndecided, undecidedAmong}
 use Rattle.coordinator.specs.Run.{withRound}
 use Rattle.coordinator.specs.WellFormed.{WellFormed}
-use Rattle.coordinator.specs.CountsBySets.{undecidedAmong}
 use Rattle.tables.specs.declared.RunTable.{RunTable}
 use Rattle.tables.specs.RunOfTable.{statesIn, runFrom}
 use Rattle.coordinator_sending.specs.Sending.{SendingAllowed}

@@ -19,7 +19,7 @@ counts-bounded text x out counts wrote said =
     let bound = speaker-bound x (accepted-well-formed text x (wrote .read)) in
     let run = demand-2 .result text x out wrote .last in
     let same : counts ≡ countsOf x = cc in
-    rw same (record { speakers = bound .speakers; messages = bound .messages; commits = bound .commits })
+    rw same (record { speakers = bound .speakers; speakersFit = bound .speakersFit; messages = bound .messages; commits = bound .commits })
 
 pub bound-claim : BoundClaim
 bound-claim =

@@ -15,12 +15,13 @@ use Rattle.demands.specs.Written.{Wrote}
 -- Of the counts of a last line, among n processes.
 pub record CountsBounded (n : ℕ) (counts : Counts) : Type 0 where
   pub speakers : counts .speakers ≤ suc (counts .crashes)
+  pub speakersFit : counts .speakers ≤ n
   pub messages : counts .dataSent + counts .commitsSent ≤ boundBySpeakers n (counts .speakers)
   pub commits : counts .commitsSent ≤ commitsBySpeakers n (counts .speakers)
 
 pub record BoundClaim : Type 0 where
   pub rounds : (text : List ℕ) (x : Instance) → readTicket text ≡ accepted x → SpeakerBound x
-  -- the messages of a round are the ones of the set of those to whom they are sent and the undecided
+  -- a round counts as many messages as the set of those to whom they are sent and that of the undecided have ones in common
   pub bySets : (text : List ℕ) (x : Instance) → readTicket text ≡ accepted x → CountsBySets x
   pub said : (text : List ℕ) (x : Instance) (out : List ℕ) (counts : Counts) → Wrote text x out → countsSaid out (x .processes) ≡ some counts
       → CountsBounded (x .processes) counts

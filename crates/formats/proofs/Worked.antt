@@ -1,4 +1,4 @@
--- The rounds that qualify in the worked cases, and what case 9 says of the bound (specs/Worked), computed from the tickets. Assumes nothing.
+-- The rounds that qualify in the worked cases, and what case 9 says of the bound on commits (specs/Worked), computed from the tickets. Assumes nothing.
 use mathlib.Core.Path.{refl}
 use Rattle.general.specs.Bits.{member}
 use Rattle.general.specs.BigEndian.{number, numberFrom}
@@ -26,12 +26,12 @@ use Rattle.formats.specs.Ticket.{atEnd, readTicket}
 use Rattle.formats.specs.Table.{textOf, opening}
 use Rattle.formats.specs.FurtherRuns.{furtherRuns}
 use Rattle.formats.specs.LetterRuns.{letterRuns}
-use Rattle.formats.specs.Worked.{qualifyingIn, SettlingRounds, boundsOf, Case9MeetsCommitBound}
+use Rattle.formats.specs.Worked.{qualifyingIn, SettlingRounds, commitBoundOf, Case9MeetsCommitBound}
 
 pub settling-rounds : SettlingRounds
 unfolding SettlingRounds qualifyingTo qualifyingRounds qualifyingIn textOf ascii opening furtherRuns letterRuns member number numberFrom mapFrom countFrom pointFrom faultOf withinLimits arriving getsData getsCommit sends receives amongFirst reachAt reachIn reach stateOf crashesIn sentBy received afterOutcome after statesAfter isUndecided anyUndecided speaks carries carriedIn dataIn commitsIn isIdle countsAsCrash crashCount initial withRound runTo runOf crashesOf valuesHeld allAre oneValue qualifies digitValue isDigit scan closed unclosed linesFrom linesOf proceed readFrom isKind headerSays afterProposal proposalSays failureLine placesCrash allBetween suitsStep crashSays failureSays lineSays unproposed withProposal withCrash begin store accept atEnd readTicket
 settling-rounds = refl
 
 pub case-9-meets-commit-bound : Case9MeetsCommitBound
-unfolding Case9MeetsCommitBound boundsOf textOf ascii member number numberFrom mapFrom countFrom pointFrom faultOf withinLimits arriving getsData getsCommit sends receives amongFirst reachAt reachIn reach stateOf crashesIn sentBy received afterOutcome after statesAfter isUndecided anyUndecided speaks carries carriedIn dataIn commitsIn isIdle countsAsCrash crashCount initial withRound runTo runOf crashesOf digitValue isDigit scan closed unclosed linesFrom linesOf proceed readFrom isKind headerSays afterProposal proposalSays failureLine placesCrash allBetween suitsStep crashSays failureSays lineSays unproposed withProposal withCrash begin store accept atEnd readTicket
+unfolding Case9MeetsCommitBound commitBoundOf textOf ascii member number numberFrom mapFrom countFrom pointFrom faultOf withinLimits arriving getsData getsCommit sends receives amongFirst reachAt reachIn reach stateOf crashesIn sentBy received afterOutcome after statesAfter isUndecided anyUndecided speaks carries carriedIn dataIn commitsIn isIdle countsAsCrash crashCount initial withRound runTo runOf crashesOf digitValue isDigit scan closed unclosed linesFrom linesOf proceed readFrom isKind headerSays afterProposal proposalSays failureLine placesCrash allBetween suitsStep crashSays failureSays lineSays unproposed withProposal withCrash begin store accept atEnd readTicket
 case-9-meets-commit-bound = refl

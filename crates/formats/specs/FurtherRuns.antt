@@ -34,14 +34,23 @@ abbrev pub afterItsRound : Case
 afterItsRound =
     withFailure 17 "03010200000000000000000000" (case8 .output)
 
--- Of the data that process 2 sends to processes 3 to 6 in round 2, two messages count: process 6 has decided, process 5 crashed in round 1, and process 4
--- crashes in round 2 itself. Of process 3 none counts.
-abbrev pub twoDropped : Case
-twoDropped =
+-- In round 2 data are sent to the set of processes 3 to 6, and those to processes 3 and 4 count: process 4 crashes in this very round, process 5 crashed in
+-- round 1, and process 6 has decided. Nothing that process 3 sends in round 3 counts.
+abbrev pub setPartlyCounted : Case
+setPartlyCounted =
     caseOf 18 ("010604" ∷ "02010000000A" ∷ "020200000014" ∷ "02030000001E" ∷ "020400000028" ∷ "020500000032" ∷ "02060000003C"
     ∷ "03010102000000000000000001" ∷ "03020201000000000000003C00" ∷ "03040200000000000000000000" ∷ "03050100000000000000000000" ∷ "04" ∷ [])
     ("11010201000000000501" ∷ "11020202000000000200" ∷ "110301030000000A0000" ∷ "11040202000000000000" ∷ "11050201000000000000" ∷ "110601010000000A0000"
     ∷ "1203040300070001" ∷ [])
 
+-- In round 2 commits are sent to processes 6 and 5, and that to process 5 counts: process 6 has decided. In round 3 what is sent to process 4, which crashes
+-- in that round, counts.
+abbrev pub commitsPartlyCounted : Case
+commitsPartlyCounted =
+    caseOf 19 ("010603" ∷ "02010000000A" ∷ "020200000014" ∷ "02030000001E" ∷ "020400000028" ∷ "020500000032" ∷ "02060000003C"
+    ∷ "03010102000000000000000001" ∷ "03020202000000000000000002" ∷ "03040300000000000000000000" ∷ "04" ∷ [])
+    ("11010201000000000501" ∷ "11020202000000000301" ∷ "110301030000000A0101" ∷ "11040203000000000000" ∷ "110501020000000A0000" ∷ "110601010000000A0000"
+    ∷ "1203030300090003" ∷ [])
+
 unfoldable pub furtherRuns : List Case
-furtherRuns = noCommit ∷ twoCommits ∷ setOfTwo ∷ silentAtLast ∷ afterItsRound ∷ twoDropped ∷ []
+furtherRuns = noCommit ∷ twoCommits ∷ setOfTwo ∷ silentAtLast ∷ afterItsRound ∷ setPartlyCounted ∷ commitsPartlyCounted ∷ []

@@ -19,5 +19,5 @@ expected c = textOf (c .output)
 -- to 12 are the marked ones"); and so are the further runs and those in small letters.
 pub record MarkedCases : Type 0 where
   pub numbers : map (λ (c : Case). c .number) (cases ++ furtherRuns ++ letterRuns)
-      ≡ 1 ∷ 2 ∷ 3 ∷ 4 ∷ 5 ∷ 6 ∷ 7 ∷ 8 ∷ 9 ∷ 10 ∷ 10 ∷ 11 ∷ 12 ∷ 13 ∷ 14 ∷ 15 ∷ 16 ∷ 17 ∷ 18 ∷ 19 ∷ 20 ∷ 21 ∷ 22 ∷ []
+      ≡ 1 ∷ 2 ∷ 3 ∷ 4 ∷ 5 ∷ 6 ∷ 7 ∷ 8 ∷ 9 ∷ 10 ∷ 10 ∷ 11 ∷ 12 ∷ 13 ∷ 14 ∷ 15 ∷ 16 ∷ 17 ∷ 18 ∷ 19 ∷ 20 ∷ 21 ∷ 22 ∷ 23 ∷ []
   pub written : map writes (cases ++ furtherRuns ++ letterRuns) ≡ map expected (cases ++ furtherRuns ++ letterRuns)

@@ -5,7 +5,7 @@ use Prim.Native.Nat.{ℕ}
 use Prim.Native.String.{String}
 use Rattle.general.specs.Text.{ascii}
 
--- A ticket and the result or the refusal that it gets, under document 01's number, or from 13 on that of a further run, from 19 on in small letters.
+-- A ticket and the result or the refusal that it gets, under document 01's number, or from 13 on that of a further run, from 20 on in small letters.
 pub record Case : Type 0 where
   pub number : ℕ
   pub ticket : List String
@@ -75,7 +75,7 @@ case8 =
     withFailure 8 "03030200000000000000000000"
     ("110101010000000A0303" ∷ "110201010000000A0000" ∷ "110301010000000A0000" ∷ "110401010000000A0000" ∷ "1201000100030003" ∷ [])
 
--- Case 9: of 10 processes 7 speak, and 3 commits count: the bound on commits met exactly. Of 42 data messages 24 count, and of 21 commits 3.
+-- Case 9: of 10 processes 7 speak; of their 42 data messages 24 count, and of their 21 commits 3, which meets the bound on commits exactly.
 abbrev pub case9 : Case
 case9 =
     caseOf 9 ("010A09" ∷ "02010000000A" ∷ "020200000014" ∷ "02030000001E" ∷ "020400000028" ∷ "020500000032" ∷ "02060000003C" ∷ "020700000046"

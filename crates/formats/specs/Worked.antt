@@ -4,8 +4,8 @@ use mathlib.Core.List.{List, [], _∷_, _++_, map}
 use mathlib.Core.Path.{_≡_}
 use Prim.Native.Nat.{ℕ}
 use Rattle.consensus.specs.Instance.{Instance}
-use Rattle.coordinator.specs.Run.{runOf, crashesOf}
-use Rattle.coordinator.specs.SpeakerBound.{commitsBySpeakers}
+use Rattle.coordinator.specs.Run.{runOf}
+use Rattle.coordinator.specs.SpeakerBound.{mostCommits}
 use Rattle.coordinator.specs.WorkedRuns.{qualifyingRounds}
 use Rattle.formats.specs.Reading.{Reading, accepted, refused}
 use Rattle.formats.specs.Ticket.{readTicket}
@@ -25,16 +25,15 @@ SettlingRounds =
     map (λ (c : Case). qualifyingIn (readTicket (textOf (c .ticket))))
     (case1 ∷ case2 ∷ case3 ∷ case4 ∷ case5 ∷ case6 ∷ case7 ∷ case8 ∷ case9 ∷ furtherRuns ++ letterRuns)
     ≡ (1 ∷ 2 ∷ []) ∷ (1 ∷ []) ∷ (1 ∷ []) ∷ (2 ∷ []) ∷ (2 ∷ []) ∷ (3 ∷ []) ∷ (1 ∷ 2 ∷ []) ∷ (1 ∷ []) ∷ (1 ∷ 2 ∷ 3 ∷ 4 ∷ 5 ∷ 6 ∷ 7 ∷ [])
-    ∷ (1 ∷ 2 ∷ []) ∷ (1 ∷ 2 ∷ []) ∷ (2 ∷ []) ∷ (1 ∷ 2 ∷ []) ∷ (1 ∷ []) ∷ (1 ∷ 2 ∷ 3 ∷ [])
+    ∷ (1 ∷ 2 ∷ []) ∷ (1 ∷ 2 ∷ []) ∷ (2 ∷ []) ∷ (1 ∷ 2 ∷ []) ∷ (1 ∷ []) ∷ (1 ∷ 2 ∷ 3 ∷ []) ∷ (1 ∷ 2 ∷ 3 ∷ [])
     ∷ (1 ∷ 2 ∷ []) ∷ (1 ∷ []) ∷ (1 ∷ []) ∷ (2 ∷ 3 ∷ []) ∷ []
 
--- n, f, the speakers, the commit messages that count, and the most that there may be of them, of a ticket as read.
-unfoldable pub boundsOf : Reading Instance → List ℕ
-boundsOf (accepted x) =
-    x .processes ∷ crashesOf x ∷ runOf x .speakers ∷ runOf x .commitsSent ∷ commitsBySpeakers (x .processes) (runOf x .speakers) ∷ []
-boundsOf (refused refusal line) = []
+-- n, the speakers, the commit messages that count, and the most that there may be of them, of a ticket as read.
+unfoldable pub commitBoundOf : Reading Instance → List ℕ
+commitBoundOf (accepted x) = x .processes ∷ runOf x .speakers ∷ runOf x .commitsSent ∷ mostCommits x ∷ []
+commitBoundOf (refused refusal line) = []
 
--- The claim on case 9: of 10 processes 9 crash and 7 speak, and 3 commits count, which is the bound (document 02, Paper 4: "line 12's commits are at most n
--- less its speakers"; "case 9 has data 24, commits 3").
+-- The claim on case 9: of 10 processes 7 speak, and 3 commits count, which is the bound (document 02, Paper 4: "line 12's commits are at most n less its
+-- speakers"; "case 9 has data 24, commits 3").
 unfoldable pub Case9MeetsCommitBound : Type 0
-Case9MeetsCommitBound = boundsOf (readTicket (textOf (case9 .ticket))) ≡ 10 ∷ 9 ∷ 7 ∷ 3 ∷ 3 ∷ []
+Case9MeetsCommitBound = commitBoundOf (readTicket (textOf (case9 .ticket))) ≡ 10 ∷ 7 ∷ 3 ∷ 3 ∷ []

@@ -22,7 +22,7 @@ membersTo (suc p) set =
     let lower = membersTo p set in
     cond (member (suc p) set) (suc p ∷ lower) lower
 
--- For the code alone: the set of the processes from 1 to n that pass a test.
+-- The set of the processes from 1 to n that pass a test.
 unfoldable pub setOf : (n : ℕ) → (ℕ → Bool) → ℕ
 setOf zero test = 0
 setOf (suc n) test = cond (test (suc n)) 1 0 * 2 ^ n + setOf n test

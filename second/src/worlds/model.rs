@@ -275,7 +275,9 @@ impl Run {
             let goes_on = states.iter().any(|&state| (rules.is_undecided)(state));
             let coordinator = (rules.coordinator)(round, self.n);
             let speaks = (rules.speaks)(states[usize::from(coordinator) - 1]);
-            let (data, commits) = if speaks { self.messages(place, rules) } else { (0, 0) };
+            let counts_messages = speaks || rules.silent_counts;
+            let (data, commits) =
+                if counts_messages { self.messages(place, rules) } else { (0, 0) };
             if (rules.round_counts)(goes_on, speaks, data) {
                 counts.rounds = round;
             }

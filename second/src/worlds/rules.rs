@@ -45,6 +45,8 @@ pub struct Rules {
     pub speaks: fn(State) -> bool,
     /// Whether a speaker is counted, from how many data messages are counted of it.
     pub speaker_counts: fn(data: u64) -> bool,
+    /// Whether messages are counted of a coordinator that is no speaker.
+    pub silent_counts: bool,
     /// Whether a speaker sends a message of this kind to a process.
     pub is_sent: fn(&Addressee, Kind) -> bool,
     /// Whether the switch carries it, so that it is counted.
@@ -133,6 +135,7 @@ pub const RIGHT: Rules = Rules {
     round_counts: |goes_on, _, _| goes_on,
     speaks: right::is_undecided,
     speaker_counts: |_| true,
+    silent_counts: false,
     is_sent: Addressee::gets,
     is_carried: |to, _| right::is_undecided(to.before),
     shown: |line| line.own(),

@@ -346,7 +346,7 @@ const COUNTS: &[World] = &[
         Rules { round_counts: |_, _, data| data > 0, ..RIGHT },
     ),
     world(
-        "a coordinator of which nothing is carried is no speaker",
+        "coordinator/speakers-without-counted-data-left-out",
         &[CountsSpeakers],
         Rules { speaker_counts: |data| data > 0, ..RIGHT },
     ),
@@ -388,6 +388,11 @@ const CARRIED: &[World] = &[
         "a coordinator is counted among those that it sends commits to",
         &[CountsReached, CountsBySets, MessagesWithinBound, CommitsWithinBound, CountsThoseAbove],
         Rules { is_sent: |to, kind| is_own(to) && kind == Kind::Commit || to.gets(kind), ..RIGHT },
+    ),
+    world(
+        "coordinator/messages-of-silent-coordinators-counted",
+        &[CommitsWithinBound, CountsOwnRound],
+        Rules { silent_counts: true, ..RIGHT },
     ),
     world(
         "coordinator/every-addressee-counted",
