@@ -77,12 +77,11 @@ static void read_ticket(const uint8_t *text, struct ticket *ticket)
     }
 }
 
-/* How many bytes of what process q says in round r reach process p: none, the data frame, or both frames. */
+/* How many bytes of what process q says in round r are let out to process p, which is above it: none, the data frame, or both
+ * frames. */
 static size_t let_through(const struct ticket *ticket, unsigned q, unsigned r, unsigned p)
 {
     const struct fault *fault = &ticket->fault[q];
-    if (p <= q)
-        return 0;
     if (fault->round != r)
         return UC_SPEECH_BYTES;
     switch (fault->step) {

@@ -29,9 +29,9 @@
  *   03 process round step set(8) count   at most t lines, processes strictly rising: how a process crashes. Round is
  *                                     1 to t + 1. Step 00: before it sends anything in that round; set and count are 0.
  *                                     Step 01: in its own round (round = process), while it sends data; bit j - 1 of set
- *                                     is 1 if process j got the data, all above it and at most n; count is 0. Step 02:
- *                                     in its own round, while it sends commits; all data went out, and count commits did
- *                                     (0 to n - process), to n, n - 1 and so on downward; set is 0.
+ *                                     is 1 if process j was sent the data, all above it and at most n; count is 0.
+ *                                     Step 02: in its own round, while it sends commits; all data went out, and count
+ *                                     commits did (0 to n - process), to n, n - 1 and so on downward; set is 0.
  *   04                                once: the end. Nothing follows.
  *
  * A RESULT is n + 1 lines of the same form; its letters are capitals:
@@ -45,8 +45,8 @@
  *                                     carried in all, the sums of those above. Commits are at most n - speakers
  *
  * A frame is carried, and so counted, if its addressee was up and undecided when the round began, even if it crashes in that
- * round. The switch drops frames to processes that had crashed or decided. They are sent all the same: who is sent a commit
- * after how many others goes by the list of all processes, and so does a failure line's count.
+ * round. The switch drops frames to processes that had crashed or decided. The list of commits is fixed: it names crashed and
+ * decided processes too, and a failure line's count includes commits to them.
  *
  *   ticket      010402                        four processes, at most two crash
  *               02010000000A                  process 1 proposes 0000000A, and so on
@@ -96,7 +96,7 @@
  *      A process that heard nothing closes on nothing. The coordinator hears nothing.
  *   7. A process begins round r + 1 only after every process that is up has closed round r.
  *   8. A decided part is not called, nor one whose rounds are over: its mark says so, and a call is refused with 11. It
- *      sends nothing more, and the switch drops frames to it, as it does those to one that has crashed.
+ *      sends nothing more, and frames to it are dropped, by the switch or else by its host, as those to one that has crashed.
  *   9. A process that stops, for whatever reason, stays out. One that a host cannot go on with counts as crashed: after a
  *      refusal 12 it must not be closed on nothing instead, and a state read back after a loss of power is not used.
  *
@@ -156,7 +156,8 @@ extern "C" {
 #define UC_END_DECIDED 1
 #define UC_END_CRASHED 2
 
-/* Of the ten bytes of a process's line, two digits each, the places of the process and of what was carried of it. uc_line_byte reads one. */
+/* Of the ten bytes of a process's line, two digits each, the places of the process and of what was carried of it.
+ * uc_line_byte reads one. */
 #define UC_PROCESS_LINE_PROCESS 1
 #define UC_PROCESS_LINE_DATA 8
 #define UC_PROCESS_LINE_COMMITS 9

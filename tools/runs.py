@@ -507,6 +507,6 @@ def failure_text(run, process):
     failure, above = process.failure, run.n - process.id
     return f"crashes in round {failure.round}, " + {
         BEFORE_SENDING: "before it sends anything",
-        DURING_DATA: "while sending data: " + names(p for p in run.processes if failure.reaches(p)) + " got it",
+        DURING_DATA: "while sending data, to " + names(p for p in run.processes if failure.reaches(p)),
         DURING_COMMITS: f"while sending commits, after {failure.commits} of {above}",
     }[failure.step]

@@ -8,7 +8,10 @@ is written for a coordinator ticket; for a flood ticket, which begins 05 or 06 a
 is what was written when the papers up to the file's had landed. In paper-04.jsonl the two are the same but for the flood ticket.)
 base.jsonl has `result` alone, without Papers 2 and 4; 15 of its tickets have small letters, and are answered as since Paper 1. It is
 compared without any count: what is written now with the two bytes that Paper 2 adds struck out of each line 11, and both without the
-two counts of line 12 (`compared`, `as_compared`); and where the room matters, the output is longer by what Paper 2 adds (`output`).
+two counts of line 12 (`comparable_result`, `comparable`); and where the room matters, the output is longer by what Paper 2 adds
+(`output`). The counts of before Paper 4, which are of all frames that were sent, are those of `result` in base.jsonl, paper-01.jsonl
+and paper-02.jsonl (`COUNTED_AS_SENT`, `result_before`): tools/show-test and second/tests/vectors.rs hold to them what is carried and
+what is dropped.
 """
 
 from __future__ import annotations
@@ -21,11 +24,13 @@ FOLDER = os.path.join(os.path.dirname(os.path.dirname(os.path.abspath(__file__))
 BASE, DESK = "base", "desk"
 PAPERS = ["paper-01", "paper-02", "paper-03", "paper-04"]  # whose vectors are of running a ticket
 TICKET_FILES = [BASE, *PAPERS]
+COUNTED_AS_SENT = [BASE, "paper-01", "paper-02"]  # whose `result` is of before Paper 4
 FLOOD = (b"05", b"06")  # how a ticket begins that is refused until Paper 5 lands
 COUNTS = 4  # digits at the end of a process's line, two for each count (Paper 2)
 PROCESS_LINE = 20  # digits of it in all
 LAST_COUNTS = 8  # digits at the end of the last line, four for each count
 LAST_LINE = 16  # digits of it in all
+LINES_WITH_COUNTS = {b"11": (PROCESS_LINE, COUNTS), b"12": (LAST_LINE, LAST_COUNTS)}
 TOO_SHORT = 9  # the refusal of an output
 
 
@@ -46,7 +51,7 @@ class Ticket:
     about: str
     texts: list  # the ticket's bytes, and where it has letters often the same ticket in other letters
     result: str
-    before: str  # what was written when the papers up to the file's had landed
+    result_before: str  # what was written when the papers up to the file's had landed
     room: int | None  # of the output; ample if it is not said
     settling_rounds: list | None  # that qualify, where the file says it
     entry: Entry | None  # of the byte that stands in the ticket for two digits, in the file of Paper 3
@@ -56,29 +61,30 @@ class Ticket:
         return f"{self.file}.jsonl, line {self.number}"
 
     @property
-    def struck_out(self):
-        """Of how many lines 11 the counts are to be struck out: of all, one for each process, where the file's results have none."""
+    def process_lines_without_counts(self):
+        """How many lines 11 of what is written now are compared without their counts: where the file has none all, one for each process."""
         read = self.refusal is None or self.refusal[0] == TOO_SHORT
         return int(self.texts[0][2:4], 16) if read and self.file == BASE else 0
 
     def output(self, ample):
         """How many bytes the output has into which the ticket is run now; `ample` if the vector does not say."""
-        return ample if self.room is None else self.room + COUNTS * self.struck_out
+        return ample if self.room is None else self.room + COUNTS * self.process_lines_without_counts
 
     @property
-    def left_out(self):
+    def bytes_not_compared(self):
         """How many bytes of what is written now are left out where it is compared."""
-        return COUNTS * self.struck_out + LAST_COUNTS if self.struck_out and not self.refusal else 0
+        lines = self.process_lines_without_counts
+        return COUNTS * lines + LAST_COUNTS if lines and not self.refusal else 0
 
     @property
-    def compared(self):
-        """The result, as bytes, in the form in which it is compared: without the counts of its last line, if they are those of before."""
+    def comparable_result(self):
+        """The result, as bytes, in the form in which it is compared: of the base without the counts of its last line."""
         result = self.result.encode("ascii")
-        return result[: -LAST_COUNTS - 1] + b"\n" if self.left_out else result
+        return result[: -LAST_COUNTS - 1] + b"\n" if self.bytes_not_compared else result
 
-    def as_compared(self, written):
+    def comparable(self, written):
         """What is written now, as bytes, in that form; none if a line is not of today's length."""
-        return without_counts(written) if self.struck_out else written
+        return without_counts(written) if self.process_lines_without_counts else written
 
     @property
     def refusal(self):
@@ -88,14 +94,20 @@ class Ticket:
 
 def without_counts(result):
     """A result without the counts of each process and of the last line; none if a line is not of today's length."""
-    counts = {b"11": (PROCESS_LINE, COUNTS), b"12": (LAST_LINE, LAST_COUNTS)}
     left = []
     for line in result.split(b"\n"):
-        length, counted = counts.get(line[:2], (len(line), 0))
+        length, counted = LINES_WITH_COUNTS.get(line[:2], (len(line), 0))
         if len(line) != length:
             return None
         left.append(line[: length - counted])
     return b"\n".join(left)
+
+
+def counts_in(line):
+    """Data and commits as a line of a result counts them; none for a process's line of before Paper 2, which does not."""
+    length, counted = LINES_WITH_COUNTS[line[:2]]
+    data, commits = line[-counted : -counted // 2], line[-counted // 2 :]
+    return (int(data, 16), int(commits, 16)) if len(line) == length else None
 
 
 def objects(file):

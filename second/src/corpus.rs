@@ -11,8 +11,7 @@ use crate::ticket::{processes_above, Failure, Ticket, LONGEST_TICKET, MOST_PROCE
 use crate::worked;
 
 /// How many tickets the stored corpus of `replay` has: the 600 from before
-/// Paper 2, seven with outputs around the lengths of then, and the twenty of Paper
-/// 4.
+/// Paper 2, seven with outputs around the lengths of then, and the 21 of Paper 4.
 pub const STORED: usize = 628;
 
 /// The longest text of a corpus, and the most that `replay` takes.
@@ -460,7 +459,7 @@ fn addressees() -> Vec<Entry> {
         }
     }
     tickets.extend(many_addressees());
-    tickets.extend([worked::each_kind_of_addressee(), worked::one_commit_of_two()]);
+    tickets.extend([worked::set_partly_counted(), worked::commits_partly_counted()]);
     tickets.iter().map(|ticket| Entry::ample(ticket.text())).collect()
 }
 
@@ -484,7 +483,7 @@ fn many_addressees() -> [Ticket; 3] {
 mod tests {
     use super::*;
     use crate::process::{Process, Status};
-    use crate::recount::{counted, end_round};
+    use crate::recount::{counted, crashed_before, crashes_in, decided_before};
     use crate::refusal::{Reason, Refusal};
     use crate::simulation::Simulation;
     use crate::Simulator;
@@ -593,15 +592,11 @@ mod tests {
         let mut simulation = Simulation::new(ticket);
         simulation.run(|_, _| {});
         let ends: Vec<Status> = simulation.processes().iter().map(Process::status).collect();
-        let is_crashed = |end| matches!(end, Status::Crashed(_));
         let mut addressed = [[false; 2]; 3];
         for id in 1..=ticket.n {
-            let kinds = [
-                counted(ticket, &ends, id, |end| end_round(end) < id && is_crashed(end)),
-                counted(ticket, &ends, id, |end| end_round(end) < id && !is_crashed(end)),
-                counted(ticket, &ends, id, |end| end_round(end) == id && is_crashed(end)),
-            ];
-            for (addressed, count) in addressed.iter_mut().zip(kinds) {
+            let kinds: [fn(Status, u8) -> bool; 3] = [crashed_before, decided_before, crashes_in];
+            let counts = kinds.map(|is_of| counted(ticket, &ends, id, |end| is_of(end, id)));
+            for (addressed, count) in addressed.iter_mut().zip(counts) {
                 addressed[0] |= count.data > 0;
                 addressed[1] |= count.commits > 0;
             }

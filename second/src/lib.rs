@@ -7,7 +7,7 @@
 //! |---|---|
 //! | "The ticket", refusals 1 to 8 | [`lines`], [`ticket`] |
 //! | 02, Paper 1: letters of either case | [`lines`] |
-//! | 02, Paper 2: the messages of each process | [`process::Carried`], [`report`] |
+//! | 02, Paper 2: the messages of each process | [`process::MessageCounts`], [`report`] |
 //! | 02, Paper 3: what each byte is as a digit, by a rule | [`lines`] |
 //! | 02, Paper 4: which messages are dropped, and so not counted | [`switch::Switch`] |
 //! | "A round" | [`process`], [`switch`], [`simulation`] |
@@ -21,7 +21,8 @@
 //! a process that goes dark has crashed, as in document 001.
 //! [`generate`], [`patterns`] and [`corpus`] make tickets to try implementations
 //! on, [`recount`] counts in another way, and [`interface`] is what the
-//! implementations have in common. [`worlds`] changes the rules one at a time and shows which claims fail then.
+//! implementations have in common. [`worlds`] changes the rules one at a time and
+//! shows which claims fail then.
 
 #![forbid(unsafe_code)]
 #![warn(missing_docs)]

@@ -23,16 +23,17 @@ pub enum Status {
     Crashed(u8),
 }
 
-/// How many messages of a process the switch has carried (02, Papers 2 and 4).
+/// How many messages of a process the switch has carried (02, Papers 2 and 4); in
+/// [`crate::recount`] also how many it sends.
 #[derive(Clone, Copy, Debug, Default, PartialEq, Eq)]
-pub struct Carried {
+pub struct MessageCounts {
     /// Data messages.
     pub data: u8,
     /// Commits.
     pub commits: u8,
 }
 
-impl Carried {
+impl MessageCounts {
     /// Counts one more.
     pub fn count(&mut self, message: Message) {
         match message {
@@ -49,7 +50,7 @@ pub struct Process {
     estimate: u32,
     status: Status,
     failure: Option<Failure>,
-    carried: Carried,
+    carried: MessageCounts,
     mailbox: Vec<Message>,
 }
 
@@ -61,7 +62,7 @@ impl Process {
             estimate: proposal,
             status: Status::Active,
             failure: None,
-            carried: Carried::default(),
+            carried: MessageCounts::default(),
             mailbox: Vec::with_capacity(2),
         }
     }
@@ -71,7 +72,7 @@ impl Process {
         self.estimate = proposal;
         self.status = Status::Active;
         self.failure = None;
-        self.carried = Carried::default();
+        self.carried = MessageCounts::default();
         self.mailbox.clear();
     }
 
@@ -96,7 +97,7 @@ impl Process {
     }
 
     /// The messages that it was charged for.
-    pub fn carried(&self) -> Carried {
+    pub fn carried(&self) -> MessageCounts {
         self.carried
     }
 
@@ -190,9 +191,9 @@ mod tests {
         for (_, message) in process.messages(64).take(63 + 2) {
             process.charge(message);
         }
-        assert_eq!(process.carried(), Carried { data: 63, commits: 2 });
+        assert_eq!(process.carried(), MessageCounts { data: 63, commits: 2 });
         process.restart(8);
-        assert_eq!(process.carried(), Carried::default());
+        assert_eq!(process.carried(), MessageCounts::default());
     }
 
     #[test]

@@ -1,8 +1,8 @@
 //! The counts of a result by another way than the simulation's: read off the
-//! ticket and how the processes end, by sets and not message by message. Tests
-//! hold counts to it, those of the rule before Paper 4 too.
+//! ticket and how the processes end, by sets or by document 01's numbers, and not
+//! message by message. Tests hold counts to it, those of the rule before Paper 4 too.
 
-use crate::process::{Carried, Status};
+use crate::process::{MessageCounts, Status};
 use crate::ticket::{Crash, Ticket};
 
 /// The round in which a process ends; none has ended that is active.
@@ -11,6 +11,39 @@ pub fn end_round(end: Status) -> u8 {
         Status::Decided(round) | Status::Crashed(round) => round,
         Status::Active => u8::MAX,
     }
+}
+
+/// Whether a process that ends so has crashed when `round` begins.
+pub fn crashed_before(end: Status, round: u8) -> bool {
+    end_round(end) < round && matches!(end, Status::Crashed(_))
+}
+
+/// Whether it has decided when `round` begins.
+pub fn decided_before(end: Status, round: u8) -> bool {
+    end_round(end) < round && matches!(end, Status::Decided(_))
+}
+
+/// Whether it crashes in `round` itself.
+pub fn crashes_in(end: Status, round: u8) -> bool {
+    end == Status::Crashed(round)
+}
+
+/// What document 01 counts of process `id`, all that it sends, if it ends so: "n − r,
+/// or, in step 01, the number of ones in its set, or 0 in step 00. Commits are n − r,
+/// or the count."
+pub fn sent(ticket: &Ticket, end: Status, id: u8) -> MessageCounts {
+    let above = ticket.n - id;
+    let line = ticket.failures.iter().find(|failure| failure.process == id);
+    let (data, commits) = match (end, line.map(|failure| failure.crash)) {
+        (end, _) if end_round(end) != id => (0, 0),
+        (Status::Crashed(_), Some(Crash::BeforeSending)) => (0, 0),
+        (Status::Crashed(_), Some(Crash::SendingData { reached })) => {
+            (reached.count_ones() as u8, 0)
+        }
+        (Status::Crashed(_), Some(Crash::SendingCommits { sent })) => (above, sent),
+        _ => (above, above),
+    };
+    MessageCounts { data, commits }
 }
 
 /// The processes to which `sender` sends data, and those to which it sends
@@ -39,12 +72,12 @@ pub fn counted(
     ends: &[Status],
     sender: u8,
     is_counted: impl Fn(Status) -> bool,
-) -> Carried {
+) -> MessageCounts {
     let [data, commits] = recipients(ticket, ends, sender).map(|recipients| {
         let ends = recipients.into_iter().map(|to| ends[usize::from(to) - 1]);
         ends.filter(|&end| is_counted(end)).count() as u8
     });
-    Carried { data, commits }
+    MessageCounts { data, commits }
 }
 
 #[cfg(test)]
@@ -54,7 +87,7 @@ mod tests {
     use crate::process::Process;
     use crate::simulation::Simulation;
 
-    fn run(ticket: &Ticket) -> (Vec<Status>, Vec<Carried>) {
+    fn run(ticket: &Ticket) -> (Vec<Status>, Vec<MessageCounts>) {
         let mut simulation = Simulation::new(ticket);
         simulation.run(|_, _| {});
         let processes = simulation.processes().iter();
@@ -62,23 +95,6 @@ mod tests {
             processes.clone().map(Process::status).collect(),
             processes.map(Process::carried).collect(),
         )
-    }
-
-    /// What document 01 counts: "n − r, or, in step 01, the number of ones in its
-    /// set, or 0 in step 00. Commits are n − r, or the count."
-    fn sent(ticket: &Ticket, end: Status, id: u8) -> Carried {
-        let above = ticket.n - id;
-        let line = ticket.failures.iter().find(|failure| failure.process == id);
-        let (data, commits) = match (end, line.map(|failure| failure.crash)) {
-            (end, _) if end_round(end) != id => (0, 0),
-            (Status::Crashed(_), Some(Crash::BeforeSending)) => (0, 0),
-            (Status::Crashed(_), Some(Crash::SendingData { reached })) => {
-                (reached.count_ones() as u8, 0)
-            }
-            (Status::Crashed(_), Some(Crash::SendingCommits { sent })) => (above, sent),
-            _ => (above, above),
-        };
-        Carried { data, commits }
     }
 
     #[test]

@@ -1,6 +1,6 @@
 //! The result's text (01, "The result"; 02, Papers 2 and 4).
 
-use crate::process::{Carried, Process, Status};
+use crate::process::{MessageCounts, Process, Status};
 use crate::simulation::Totals;
 use crate::ticket::MOST_PROCESSES;
 
@@ -31,7 +31,7 @@ pub fn write_result(processes: &[Process], totals: &Totals, output: &mut [u8]) {
 
 /// The bytes of a process's line. No process is active when a run ends; the
 /// line of one that is has an end of its own, 00.
-pub fn process_line(id: u8, status: Status, estimate: u32, carried: Carried) -> [u8; 10] {
+pub fn process_line(id: u8, status: Status, estimate: u32, carried: MessageCounts) -> [u8; 10] {
     let (end, round, value) = match status {
         Status::Active => (0x00, 0, estimate),
         Status::Decided(round) => (0x01, round, estimate),
@@ -84,9 +84,9 @@ mod tests {
             write_line(&process_line(1, status, 10, carried), &mut line);
             line
         };
-        let some = Carried { data: 3, commits: 1 };
+        let some = MessageCounts { data: 3, commits: 1 };
         assert_eq!(&line(Status::Crashed(1), some), b"11010201000000000301\n");
-        let most = Carried { data: 63, commits: 63 };
+        let most = MessageCounts { data: 63, commits: 63 };
         assert_eq!(&line(Status::Decided(1), most), b"110101010000000A3F3F\n");
     }
 }

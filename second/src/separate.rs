@@ -4,7 +4,7 @@
 
 use crate::interface::Agreement;
 use crate::local::{SPEECH_LENGTH, STATE_LENGTH};
-use crate::process::{Carried, Message, Status};
+use crate::process::{Message, MessageCounts, Status};
 use crate::switch::{Fate, Uplink};
 use crate::ticket::{Failure, Ticket};
 
@@ -20,7 +20,7 @@ pub struct End {
     /// The value that it decides; 0 if it crashes.
     pub value: u32,
     /// The messages that left it and were carried.
-    pub carried: Carried,
+    pub carried: MessageCounts,
 }
 
 /// One process: its state, and what it has heard in this round.
@@ -30,7 +30,7 @@ struct Local {
     state: [u8; STATE_LENGTH],
     failure: Option<Failure>,
     crashed: Option<u8>,
-    carried: Carried,
+    carried: MessageCounts,
     heard: Vec<u8>,
 }
 
@@ -99,7 +99,7 @@ fn start_all(module: &mut impl Agreement, ticket: &Ticket) -> Result<Vec<Local>,
             state,
             failure: failure.copied(),
             crashed: None,
-            carried: Carried::default(),
+            carried: MessageCounts::default(),
             heard: Vec::with_capacity(SPEECH_LENGTH),
         });
     }

@@ -65,7 +65,7 @@ pub enum Crash {
     BeforeSending,
     /// Step 01: while sending data in its own round.
     SendingData {
-        /// The processes that got the data; bit j − 1 stands for process j.
+        /// The processes that were sent the data; bit j − 1 stands for process j.
         reached: u64,
     },
     /// Step 02: while sending commits in its own round.

@@ -58,15 +58,15 @@ pub fn runs() -> [(&'static str, Ticket); 15] {
         ("silent at last", Ticket { t: 3, ..four(three_crash) }),
         ("no commit", four(vec![Failure::sending_commits(1, 0)])),
         ("two reached", four(vec![Failure::sending_data(1, 0b0110)])),
-        ("each kind of addressee", each_kind_of_addressee()),
-        ("one commit of two", one_commit_of_two()),
+        ("set partly counted", set_partly_counted()),
+        ("commits partly counted", commits_partly_counted()),
     ]
 }
 
 /// In round 2 process 2 sends data to one that stays up, one that crashes in that
 /// round, one that has crashed and one that has decided (02, Paper 4); in round 3
 /// process 3 sends to none that is up and undecided.
-pub fn each_kind_of_addressee() -> Ticket {
+pub fn set_partly_counted() -> Ticket {
     let failures = vec![
         Failure::sending_commits(1, 1),
         Failure::sending_data(2, 0b11_1100),
@@ -79,7 +79,7 @@ pub fn each_kind_of_addressee() -> Ticket {
 /// In round 2 of the two commits of process 2 one goes to a process that has
 /// decided (02, Paper 4); in round 3 process 3, which stays up, sends to one that
 /// crashes in that round and to two that have decided.
-pub fn one_commit_of_two() -> Ticket {
+pub fn commits_partly_counted() -> Ticket {
     let failures = vec![
         Failure::sending_commits(1, 1),
         Failure::sending_commits(2, 2),
@@ -211,20 +211,20 @@ mod tests {
     }
 
     #[test]
-    fn each_kind_of_addressee_whole() {
+    fn set_partly_counted_whole() {
         let result = "11010201000000000501\n11020202000000000200\n110301030000000A0000\n\
                       11040202000000000000\n11050201000000000000\n110601010000000A0000\n\
                       1203040300070001\n";
-        let ticket = each_kind_of_addressee().text();
+        let ticket = set_partly_counted().text();
         assert_eq!(Simulator::new().print(&ticket, 2000), result);
     }
 
     #[test]
-    fn one_commit_of_two_whole() {
+    fn commits_partly_counted_whole() {
         let result = "11010201000000000501\n11020202000000000301\n110301030000000A0101\n\
                       11040203000000000000\n110501020000000A0000\n110601010000000A0000\n\
                       1203030300090003\n";
-        assert_eq!(Simulator::new().print(&one_commit_of_two().text(), 2000), result);
+        assert_eq!(Simulator::new().print(&commits_partly_counted().text(), 2000), result);
     }
 
     #[test]

@@ -2,8 +2,8 @@
 //! claim of every run, tried on random tickets.
 
 use second::generate;
-use second::process::{Carried, Process, Status};
-use second::recount::{counted, end_round};
+use second::process::{MessageCounts, Process, Status};
+use second::recount::{counted, crashed_before, crashes_in, decided_before, sent};
 use second::report::result_length;
 use second::rng::Rng;
 use second::separate::{run_separately, End};
@@ -90,15 +90,16 @@ fn messages_stay_within_the_papers_bounds() {
 }
 
 /// What was carried of each process.
-fn carried(ticket: &Ticket) -> Vec<Carried> {
+fn carried(ticket: &Ticket) -> Vec<MessageCounts> {
     let mut simulation = Simulation::new(ticket);
     simulation.run(|_, _| {});
     simulation.processes().iter().map(Process::carried).collect()
 }
 
 /// Read off the ticket and the ends: what document 01 counts of a process, all that
-/// it sends, less what goes to processes that crashed or decided in earlier rounds.
-/// A process that crashes in the round itself counts as an addressee.
+/// it sends, is the number of those to whom it sends; and less what goes to processes
+/// that crashed or decided in earlier rounds it is what was carried. A process that
+/// crashes in the round itself counts as an addressee.
 #[test]
 fn the_counts_are_those_before_paper_4_less_what_is_dropped() {
     let mut tried = [[0; 2]; 3];
@@ -109,10 +110,11 @@ fn the_counts_are_those_before_paper_4_less_what_is_dropped() {
                 let count = counted(&ticket, &ends, id, |end| whom(end, id));
                 [count.data, count.commits]
             };
-            let all = sent_to(|_, _| true);
-            let crashed = sent_to(|end, round| end_round(end) < round && is_crashed(end));
-            let decided = sent_to(|end, round| end_round(end) < round && !is_crashed(end));
-            let crashing = sent_to(|end, round| end_round(end) == round && is_crashed(end));
+            let all = sent(&ticket, ends[usize::from(id) - 1], id);
+            let all = [all.data, all.commits];
+            assert_eq!(sent_to(|_, _| true), all, "process {id} of {ticket}");
+            let [crashed, decided, crashing] =
+                [crashed_before, decided_before, crashes_in].map(sent_to);
             for (kind, carried) in [carried.data, carried.commits].into_iter().enumerate() {
                 let dropped = crashed[kind] + decided[kind];
                 assert_eq!(carried, all[kind] - dropped, "process {id} of {ticket}");
@@ -123,10 +125,6 @@ fn the_counts_are_those_before_paper_4_less_what_is_dropped() {
         }
     }
     assert!(tried.iter().flatten().all(|&count| count > 100), "{tried:?}");
-}
-
-fn is_crashed(end: Status) -> bool {
-    matches!(end, Status::Crashed(_))
 }
 
 /// The byte that two digits make.

@@ -3,7 +3,8 @@
 //! written since Paper 4; and what was written when their own had landed, which is
 //! that but for counts. The results of base.jsonl are those of a program without
 //! Papers 2 and 4: what is written now, with two bytes of each line 11 struck out,
-//! and both without the counts of line 12.
+//! and both without the counts of line 12. The counts of before Paper 4 are compared
+//! by themselves, with what is carried and what is dropped.
 
 mod json;
 
@@ -13,6 +14,9 @@ use std::path::Path;
 use json::Object;
 use second::interface::Agreement;
 use second::lines::Lines;
+use second::process::{Process, Status};
+use second::recount::{counted, crashed_before, decided_before};
+use second::simulation::Simulation;
 use second::{Simulator, Ticket};
 
 fn vectors(name: &str) -> Vec<Object> {
@@ -30,8 +34,8 @@ fn room(vector: &Object) -> usize {
     }
 }
 
-/// How many digits of a line of a result are no counts.
-fn uncounted(line: &str) -> usize {
+/// How many digits of a line of a result stand before its counts.
+fn digits_before_counts(line: &str) -> usize {
     match &line[..2] {
         "11" => 16,
         "12" => 8,
@@ -42,7 +46,29 @@ fn uncounted(line: &str) -> usize {
 /// A result without its counts: the two bytes behind the value of each line 11,
 /// if there are any, and the last four bytes of line 12.
 fn without_counts(printed: &str) -> String {
-    printed.lines().map(|line| line[..uncounted(line)].to_string() + "\n").collect()
+    printed.lines().map(|line| line[..digits_before_counts(line)].to_string() + "\n").collect()
+}
+
+/// The two counts with which a line of a result ends.
+fn counts_in(line: &str) -> [u16; 2] {
+    let counts = &line[digits_before_counts(line)..];
+    let (data, commits) = counts.split_at(counts.len() / 2);
+    [data, commits].map(|digits| u16::from_str_radix(digits, 16).expect("digits"))
+}
+
+/// The data messages and the commits of each process in a ticket's run: those that
+/// are carried, and by the recount those that are dropped.
+fn carried_and_dropped(ticket: &Ticket) -> Vec<[[u16; 2]; 2]> {
+    let mut simulation = Simulation::new(ticket);
+    simulation.run(|_, _| {});
+    let ends: Vec<Status> = simulation.processes().iter().map(Process::status).collect();
+    let of_process = |process: &Process| {
+        let id = process.id();
+        let is_dropped = |end| crashed_before(end, id) || decided_before(end, id);
+        [process.carried(), counted(ticket, &ends, id, is_dropped)]
+            .map(|count| [count.data, count.commits].map(u16::from))
+    };
+    simulation.processes().iter().map(of_process).collect()
 }
 
 /// What the vector of a paper says is written now: of a coordinator ticket, what
@@ -79,6 +105,45 @@ fn tickets() {
         }
     }
     assert!(vectors.len() >= 600);
+}
+
+fn sum_of(a: [u16; 2], b: [u16; 2]) -> [u16; 2] {
+    [a[0] + b[0], a[1] + b[1]]
+}
+
+/// Compares the counts of one accepted ticket's result of before Paper 4, which are
+/// of all that is sent: those of its last line, and of its process lines, which have
+/// them since Paper 2. Answers whether anything is dropped.
+fn counts_as_sent(ticket: &Ticket, result: &str) -> bool {
+    let counts = carried_and_dropped(ticket);
+    let lines: Vec<&str> = result.lines().collect();
+    let (last, processes) = lines.split_last().expect("a result");
+    assert_eq!(processes.len(), counts.len(), "{ticket}");
+    for (line, &[carried, dropped]) in processes.iter().zip(&counts) {
+        let has_counts = line.len() > digits_before_counts(line);
+        assert!(!has_counts || counts_in(line) == sum_of(carried, dropped), "{line} of {ticket}");
+    }
+    let in_all = counts.iter().flatten().fold([0, 0], |sum, &count| sum_of(sum, count));
+    assert_eq!(counts_in(last), in_all, "{ticket}");
+    counts.iter().any(|&[_, dropped]| dropped != [0, 0])
+}
+
+#[test]
+fn counts_before_paper_4_are_of_what_is_carried_and_of_what_is_dropped() {
+    for (file, least) in [("base.jsonl", 33), ("paper-01.jsonl", 22), ("paper-02.jsonl", 38)] {
+        let mut dropping = 0;
+        for vector in vectors(file).iter().filter(|vector| vector.text("result").starts_with("11"))
+        {
+            let text = if file == "base.jsonl" {
+                vector.bytes("ticket")
+            } else {
+                vector.written("ticket").expect(file)
+            };
+            let ticket = Ticket::parse(&text).expect("an accepted ticket");
+            dropping += usize::from(counts_as_sent(&ticket, vector.text("result")));
+        }
+        assert!(dropping >= least, "{file}: {dropping}");
+    }
 }
 
 #[test]

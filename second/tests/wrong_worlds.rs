@@ -114,33 +114,34 @@ fn rule_before_paper_4() -> Rules {
 /// others' being 0.
 type Figures = (&'static str, [u64; 5], (u8, u64, u64), &'static [u8], &'static [Messages]);
 
+const FIGURES: [Figures; 15] = [
+    ("case 1", [2, 1, 2, 4, 2], (2, 9, 2), &[1, 2], &[(3, 1), (1, 1)]),
+    ("case 2", [1, 0, 1, 0, 0], (1, 0, 0), &[1], &[]),
+    ("case 3", [1, 1, 1, 3, 3], (2, 6, 3), &[1], &[(3, 3)]),
+    ("case 4", [2, 1, 2, 3, 2], (2, 9, 2), &[2], &[(1, 0), (2, 2)]),
+    ("case 5", [2, 1, 2, 3, 2], (2, 9, 2), &[2], &[(1, 0), (2, 2)]),
+    ("case 6", [3, 2, 2, 1, 1], (3, 9, 2), &[3], &[(0, 0), (0, 0), (1, 1)]),
+    ("case 7", [2, 1, 2, 4, 2], (2, 9, 2), &[1, 2], &[(3, 1), (1, 1)]),
+    ("case 8", [1, 0, 1, 3, 3], (1, 6, 3), &[1], &[(3, 3)]),
+    (
+        "case 9",
+        [7, 9, 7, 24, 3],
+        (10, 63, 3),
+        &[1, 2, 3, 4, 5, 6, 7],
+        &[(9, 3), (5, 0), (4, 0), (3, 0), (2, 0), (1, 0)],
+    ),
+    ("one crashes later", [3, 2, 3, 0, 0], (3, 3, 0), &[2, 3], &[]),
+    ("silent at last", [2, 3, 1, 3, 1], (4, 6, 3), &[1, 2], &[(3, 1)]),
+    ("no commit", [2, 1, 2, 5, 2], (2, 9, 2), &[1, 2], &[(3, 0), (2, 2)]),
+    ("two reached", [2, 1, 2, 4, 2], (2, 9, 2), &[2], &[(2, 0), (2, 2)]),
+    ("set partly counted", [3, 4, 3, 7, 1], (5, 21, 3), &[1, 2, 3], &[(5, 1), (2, 0)]),
+    ("commits partly counted", [3, 3, 3, 9, 3], (4, 21, 3), &[1, 2, 3], &[(5, 1), (3, 1), (1, 1)]),
+];
+
 #[test]
 fn the_figures_of_the_worked_runs() {
-    let figures: [Figures; 15] = [
-        ("case 1", [2, 1, 2, 4, 2], (2, 9, 2), &[1, 2], &[(3, 1), (1, 1)]),
-        ("case 2", [1, 0, 1, 0, 0], (1, 0, 0), &[1], &[]),
-        ("case 3", [1, 1, 1, 3, 3], (2, 6, 3), &[1], &[(3, 3)]),
-        ("case 4", [2, 1, 2, 3, 2], (2, 9, 2), &[2], &[(1, 0), (2, 2)]),
-        ("case 5", [2, 1, 2, 3, 2], (2, 9, 2), &[2], &[(1, 0), (2, 2)]),
-        ("case 6", [3, 2, 2, 1, 1], (3, 9, 2), &[3], &[(0, 0), (0, 0), (1, 1)]),
-        ("case 7", [2, 1, 2, 4, 2], (2, 9, 2), &[1, 2], &[(3, 1), (1, 1)]),
-        ("case 8", [1, 0, 1, 3, 3], (1, 6, 3), &[1], &[(3, 3)]),
-        (
-            "case 9",
-            [7, 9, 7, 24, 3],
-            (10, 63, 3),
-            &[1, 2, 3, 4, 5, 6, 7],
-            &[(9, 3), (5, 0), (4, 0), (3, 0), (2, 0), (1, 0)],
-        ),
-        ("one crashes later", [3, 2, 3, 0, 0], (3, 3, 0), &[2, 3], &[]),
-        ("silent at last", [2, 3, 1, 3, 1], (4, 6, 3), &[1, 2], &[(3, 1)]),
-        ("no commit", [2, 1, 2, 5, 2], (2, 9, 2), &[1, 2], &[(3, 0), (2, 2)]),
-        ("two reached", [2, 1, 2, 4, 2], (2, 9, 2), &[2], &[(2, 0), (2, 2)]),
-        ("each kind of addressee", [3, 4, 3, 7, 1], (5, 21, 3), &[1, 2, 3], &[(5, 1), (2, 0)]),
-        ("one commit of two", [3, 3, 3, 9, 3], (4, 21, 3), &[1, 2, 3], &[(5, 1), (3, 1), (1, 1)]),
-    ];
-    assert_eq!(figures.map(|(name, ..)| name), worked::runs().map(|(name, _)| name));
-    for (name, counted, limits, settling_rounds, shown) in figures {
+    assert_eq!(FIGURES.map(|(name, ..)| name), worked::runs().map(|(name, _)| name));
+    for (name, counted, limits, settling_rounds, shown) in FIGURES {
         let said = said_under(&RIGHT, name);
         let (first, others) = said.shown.split_at(shown.len());
         assert_eq!(first, shown, "{name}");
@@ -224,6 +225,19 @@ fn other_messages_counted_in_cases_1_and_9() {
     let speakers = said("coordinator/speakers-without-counted-data-left-out", "case 9");
     assert_eq!(speakers.counts.speakers, 6);
     assert_eq!(said("coordinator/f-at-least-the-counted-commits", "case 8").f, 3);
+}
+
+/// 02, Paper 4: "The commit list stays fixed". If processes that began the round
+/// crashed or decided were left out of it, the three commits of process 2 would go to
+/// 7, 6 and 5, in the place of 10, 9 and 8, and the first of process 3 to 4.
+#[test]
+fn a_commit_list_without_those_that_have_ended_in_case_9() {
+    let left_out = said("coordinator/ended-left-out-of-the-commit-list", "case 9");
+    let (first, rest) = left_out.ends.split_at(3);
+    assert_eq!(first, [1, 2, 3].map(Crashed));
+    let (next, last) = rest.split_at(4);
+    assert_eq!(next, [Decided(3, 10), Decided(2, 10), Decided(2, 10), Decided(2, 10)]);
+    assert_eq!(last, [Crashed(1), Crashed(1), Decided(1, 10)]);
 }
 
 /// 02, Paper 4: "who hears what is untouched; only the counts in lines 11 and 12

@@ -1,5 +1,5 @@
 -- Which messages of the coordinator reach which process (document 001, section 2.1; document 01, 'A round' and the failure lines of 'The ticket').
--- This is hearing; what is counted is in Count.
+-- Hearing (Round) and counting (Count) both rest on it.
 use Prim.Native.Nat.{ℕ, _+_}
 use mathlib.Core.Bool.{Bool, cond}
 use lib.Dec.{eqb, ltb}

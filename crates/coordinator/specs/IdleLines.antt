@@ -35,7 +35,7 @@ pub record IdleLinesChangeNothing (x : Instance) : Type 0 where
   pub rounds : (r : ℕ) → r ≤ lastRound x → runTo (withoutIdle x) r ≡ runTo x r
   -- so is the whole run: the ends, the rounds, the speakers, the data and the commit messages
   pub run : runOf (withoutIdle x) ≡ runOf x
-  -- and what each process sends
+  -- and what counts of what each process sends
   pub dataSent : dataBy (withoutIdle x) ≡ dataBy x
   pub commitsSent : commitsBy (withoutIdle x) ≡ commitsBy x
   -- and f

@@ -11,12 +11,12 @@ use Rattle.consensus.specs.Consensus.{IsProcess}
 use Rattle.coordinator.specs.Count.{dataIn, commitsIn}
 use Rattle.coordinator.specs.Run.{runTo, runOf, lastRound}
 
--- The messages of one kind that each process has sent after rounds 1 to r: what a round counts by `counted` is sent by its coordinator.
+-- The messages of one kind that count of what each process has sent in rounds 1 to r: what a round counts by `counted` is sent by its coordinator.
 unfoldable pub sentAfter : (counted : Instance → ℕ → List State → ℕ) → Instance → (r : ℕ) → List ℕ
 sentAfter counted x zero = replicate (x .processes) 0
 sentAfter counted x (suc r) = addAt (suc r) (counted x (suc r) (runTo x r .states)) (sentAfter counted x r)
 
--- The data messages that each process sends in the whole run, and the commit messages.
+-- The data messages that count of what each process sends in the whole run, and the commit messages.
 unfoldable pub dataBy : Instance → List ℕ
 dataBy x = sentAfter dataIn x (lastRound x)
 
@@ -31,7 +31,7 @@ pub record BySender (counted : Instance → ℕ → List State → ℕ) (sent : 
   pub addUp : sumTo (countOf sent) (x .processes) ≡ total
   -- the count of process p is that of round p, the only one that it coordinates
   pub ofRound : (p : ℕ) → IsProcess x p → countOf sent p ≡ counted x p (runTo x (p - 1) .states)
-  -- a process whose round is none of the run's has sent none
+  -- of a process whose round is none of the run's none counts
   pub afterTheRun : (p : ℕ) → IsProcess x p → runOf x .rounds < p → countOf sent p ≡ 0
   -- the count is at most as many as there are processes above p
   pub toThoseAbove : (p : ℕ) → IsProcess x p → countOf sent p ≤ x .processes - p

@@ -1,6 +1,6 @@
 // The rounds of an instance one after the other, until no process is both up and undecided (document 01, 'A round'), and f.
-// The instance's arrays are lent; the run is a table by value that goes through each round and comes back. What each process sends is kept beside it, in
-// two lent arrays (document 02, Paper 2).
+// The instance's arrays are lent; the run is a table by value that goes through each round and comes back. What counts of what each process sends is
+// kept beside it, in two lent arrays (document 02, Papers 2 and 4).
 ghost use mathlib.Core.Path.{_≡_};
 ghost use Prim.Native.Nat.{_+_, _≤_};
 ghost use lib.ListN.{length};

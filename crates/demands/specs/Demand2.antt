@@ -16,6 +16,6 @@ pub record Demand2 : Type 0 where
   pub written : WritesResults
   -- the bytes of every result that running writes say how each process ends in the rounds, and what is counted of them
   pub result : (text : List ℕ) (x : Instance) (out : List ℕ) → Wrote text x out → OutputSays x out (endOf x) (countsOf x)
-  -- and what each process sends in them (document 02, Paper 2)
+  -- and what counts of what each process sends in them (document 02, Papers 2 and 4)
   pub sent : (text : List ℕ) (x : Instance) (out : List ℕ) → Wrote text x out → (p : ℕ) → IsProcess x p → sentSaid out p ≡ some (sentOf x p)
   pub parts : PartsClaim

@@ -1,6 +1,6 @@
--- What the bytes of an output say (document 01, 'The result'; document 02, Paper 2): how each process ended, what it sent, and the run's counts, read off
--- the bytes alone. A line that is not as the papers lay it out says nothing. What the rounds count, to which the bytes are held, are `countsOf` and `sentOf`,
--- at the end.
+-- What the bytes of an output say (document 01, 'The result'; document 02, Papers 2 and 4): how each process ended, what counts of what it sent, and the run's
+-- counts, read off the bytes alone. A line that is not as the papers lay it out says nothing. What the rounds count, to which the bytes are held, are
+-- `countsOf` and `sentOf`, at the end.
 use mathlib.Core.List.{List}
 use mathlib.Core.Path.{_≡_}
 use mathlib.Core.Option.{Option, some, none}
@@ -40,7 +40,7 @@ unfoldable pub endFrom : ℕ → Line → Option State
 endFrom p (bytes b) = endIn p b
 endFrom p noLine = none
 
--- What a process sent: the data and the commits of its line, whether it decided or crashed.
+-- What counts of what a process sent: the data and the commits of its line, whether it decided or crashed.
 pub record Sent : Type 0 where
   pub dataSent : ℕ
   pub commitsSent : ℕ

@@ -15,12 +15,12 @@ use Rattle.formats.specs.Ticket.{readTicket}
 use Rattle.demands.specs.OutputSays.{Sent, Counts, sentSaid, countsSaid}
 use Rattle.demands.specs.Written.{Wrote}
 
--- The station lines say that the processes of the instance sent so much, and the last line what was counted in all.
+-- The station lines say that so much counts of what the processes of the instance sent, and the last line what was counted in all.
 pub record MessagesSaid (x : Instance) (out : List ℕ) (sent : ℕ → Sent) (counts : Counts) : Type 0 where
   pub each : (p : ℕ) → IsProcess x p → sentSaid out p ≡ some (sent p)
   pub all : countsSaid out (x .processes) ≡ some counts
 
--- What n processes sent adds up to the counts of a last line.
+-- What counts of what n processes sent adds up to the counts of a last line.
 pub record AddsUp (n : ℕ) (sent : ℕ → Sent) (counts : Counts) : Type 0 where
   pub dataSent : sumTo (λ p. sent p .dataSent) n ≡ counts .dataSent
   pub commitsSent : sumTo (λ p. sent p .commitsSent) n ≡ counts .commitsSent

@@ -1,6 +1,6 @@
 -- The premises of the claims can be met: case 1 (document 01, 'Worked runs') is run, as it stands, in mixed letters and into a buffer that is too short, and
--- paired with case 3 and with itself without its failure line; its lines say what each process sent. (What else is answered on case 1 in mixed letters, and
--- on refused texts in two letterings: formats/specs/LetteringCases.)
+-- paired with case 3 and with itself without its failure line; its lines say what counts of each process. (What else is answered on case 1 in mixed letters,
+-- and on refused texts in two letterings: formats/specs/LetteringCases.)
 use mathlib.Core.List.{List, [], _∷_, _++_, map}
 use mathlib.Core.Option.{Option, some, none}
 use mathlib.Core.Path.{_≡_}
@@ -49,7 +49,7 @@ pub record RunMet (text : List ℕ) (size : ℕ) : Type 0 where
   pub ran : Ran text before after (Written size)
   pub called : CallWrote text before after size
 
--- A text is accepted and its result is `out`, whose lines say what each process sent and what all did; what the first lines say of processes 1, 2 and so on.
+-- A text is accepted and its result is `out`, whose lines say what counts of each process and of all; what the first lines say of processes 1, 2 and so on.
 pub record SentMet (text out : List ℕ) (rows : List (Option Sent)) (counts : Counts) : Type 0 where
   pub instance : Instance
   pub wrote : Wrote text instance out

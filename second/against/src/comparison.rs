@@ -422,9 +422,11 @@ pub fn rooms_around(n: u8, by: usize) -> Vec<usize> {
 mod tests {
     use super::*;
     use crate::exhaustive;
-    use second::process::{Carried, Status};
-    use second::recount::{counted, end_round};
+    use second::process::{MessageCounts, Status};
+    use second::recount::{counted, crashed_before, crashes_in, decided_before, end_round};
+    use second::simulation::Simulation;
     use second::worked;
+    use second::{Crash, Failure};
 
     /// A mistake that the comparison must see.
     #[derive(Clone, Copy, Debug, PartialEq)]
@@ -451,6 +453,7 @@ mod tests {
         CountsAsTheRoundEnds,
         LeavesOutRoundsWithoutData,
         CountsNoMoreCrashesThanData,
+        SkipsTheEndedInTheCommitList,
         TakesRoomFor17BytesALine,
         AsksForOneByteMore,
         WritesALongerLastLine,
@@ -471,9 +474,9 @@ mod tests {
         Mistake::CutsCountsAt62,
     ];
 
-    /// The mistakes about what is carried (02, Paper 4), the last two of them about
+    /// The mistakes about what is carried (02, Paper 4), the last three of them about
     /// what the new counts must not change.
-    const ABOUT_CARRYING: [Mistake; 7] = [
+    const ABOUT_CARRYING: [Mistake; 8] = [
         Mistake::CountsCrashedAddressees,
         Mistake::CountsDecidedAddressees,
         Mistake::CountsEveryAddressee,
@@ -481,6 +484,7 @@ mod tests {
         Mistake::CountsAsTheRoundEnds,
         Mistake::LeavesOutRoundsWithoutData,
         Mistake::CountsNoMoreCrashesThanData,
+        Mistake::SkipsTheEndedInTheCommitList,
     ];
 
     /// The mistakes about a result's length.
@@ -525,16 +529,14 @@ mod tests {
     /// Whether a message of `round` to a process that ends so is counted by a
     /// mistake.
     fn is_counted(mistake: Mistake, end: Status, round: u8) -> bool {
-        let (ends_in, crashes) = (end_round(end), matches!(end, Status::Crashed(_)));
+        let begins = round <= end_round(end);
         match mistake {
-            Mistake::CountsCrashedAddressees => round <= ends_in || crashes,
-            Mistake::CountsDecidedAddressees => round <= ends_in || !crashes,
+            Mistake::CountsCrashedAddressees => !decided_before(end, round),
+            Mistake::CountsDecidedAddressees => !crashed_before(end, round),
             Mistake::CountsEveryAddressee => true,
-            Mistake::LeavesOutAddresseesThatCrash => {
-                round < ends_in || round == ends_in && !crashes
-            }
-            Mistake::CountsAsTheRoundEnds => round < ends_in,
-            _ => round <= ends_in,
+            Mistake::LeavesOutAddresseesThatCrash => begins && !crashes_in(end, round),
+            Mistake::CountsAsTheRoundEnds => round < end_round(end),
+            _ => begins,
         }
     }
 
@@ -558,7 +560,7 @@ mod tests {
             [1, 2, 3].map(|place| number_at(last, place, 1).expect("digits") as u8);
         let mut last_with_data = 0;
         for (id, line) in (1..).zip(lines.chunks_exact_mut(PROCESS_LINE_LENGTH)) {
-            let Carried { data, commits } =
+            let MessageCounts { data, commits } =
                 counted(ticket, &ends, id, |end| is_counted(mistake, end, id));
             write_line(&[data, commits], &mut line[16..]);
             in_all = [in_all[0] + u16::from(data), in_all[1] + u16::from(commits)];
@@ -571,6 +573,30 @@ mod tests {
         }
         let [[a, b], [c, d]] = in_all.map(u16::to_be_bytes);
         write_line(&[rounds, f, speakers, a, b, c, d], &mut last[2..]);
+    }
+
+    /// The ticket whose run is that of `ticket` if dropped commits are taken for not
+    /// sent: a failure line's count then goes by the processes above that begin the
+    /// round up and undecided, and the last of them to have a commit is further down.
+    fn with_the_ended_skipped(ticket: &Ticket) -> Ticket {
+        let mut skipping = ticket.clone();
+        for place in 0..ticket.failures.len() {
+            let Failure { process, crash, .. } = ticket.failures[place];
+            let Crash::SendingCommits { sent: sent @ 1.. } = crash else {
+                continue;
+            };
+            // Who has ended goes by earlier rounds, whose lines are changed already.
+            let mut simulation = Simulation::new(&skipping);
+            simulation.run(|_, _| {});
+            let ended = |to: &u8| {
+                let end = simulation.processes()[usize::from(*to) - 1].status();
+                end_round(end) < process
+            };
+            let mut list = (process + 1..=ticket.n).rev().filter(|to| !ended(to));
+            let last = list.nth(usize::from(sent) - 1).unwrap_or(process + 1);
+            skipping.failures[place] = Failure::sending_commits(process, ticket.n - last + 1);
+        }
+        skipping
     }
 
     /// What a module answers that is mistaken about lengths.
@@ -622,6 +648,12 @@ mod tests {
                 if let Some(answer) = mistake_length(self.1, ticket, output) {
                     return answer;
                 }
+            }
+            if self.1 == Mistake::SkipsTheEndedInTheCommitList {
+                let skipping =
+                    Ticket::parse(ticket).map(|read| with_the_ended_skipped(&read).text());
+                let ticket = skipping.as_deref().unwrap_or(ticket);
+                return Agreement::run(&mut self.0, ticket, output);
             }
             let answer = Agreement::run(&mut self.0, ticket, output);
             let length = answer as usize;
@@ -763,6 +795,7 @@ mod tests {
             (Mistake::CountsAsTheRoundEnds, [true, false]),
             (Mistake::LeavesOutRoundsWithoutData, [false, false]),
             (Mistake::CountsNoMoreCrashesThanData, [false, false]),
+            (Mistake::SkipsTheEndedInTheCommitList, [true, false]),
         ];
         assert_eq!(figures.map(|(mistake, _)| mistake), ABOUT_CARRYING);
         for (mistake, [by_parts, by_bounds]) in figures {

@@ -101,7 +101,7 @@ fn commits<M: Agreement>(comparison: &mut Comparison<M>, n: u8) -> Result<(), Di
             let sent = |process| if process == last { count } else { 0 };
             let failures =
                 (1..=last).map(|process| Failure::sending_commits(process, sent(process)));
-            one_room(comparison, n, failures.collect())?;
+            compare_failures(comparison, n, failures.collect())?;
         }
     }
     Ok(())
@@ -115,22 +115,23 @@ fn dropped<M: Agreement>(comparison: &mut Comparison<M>, n: u8) -> Result<(), Di
     for count in 0..n.saturating_sub(1) {
         let last = n - count + 1..=n;
         let silent_in = |round| last.clone().map(move |id| Failure::before_sending(id, round));
-        let ways: [Vec<Failure>; 3] = [
+        let fates: [Vec<Failure>; 3] = [
             vec![Failure::sending_commits(1, count)],
             [Failure::sending_commits(1, 0)].into_iter().chain(silent_in(1)).collect(),
             [Failure::sending_commits(1, 0)].into_iter().chain(silent_in(2)).collect(),
         ];
-        let ends = [
+        let crashes_of_2 = [
             None,
             Some(Failure::sending_commits(2, (count + 1).min(n - 2))),
             Some(Failure::sending_data(2, processes_above(2, n) & (1 << 2 | 1 << (n - 1)))),
         ];
-        for way in &ways {
-            for end in ends {
-                let failures: Vec<Failure> =
-                    way[..1].iter().copied().chain(end).chain(way[1..].iter().copied()).collect();
+        for fate in &fates {
+            for crash in crashes_of_2 {
+                let (of_1, of_last) = fate.split_at(1);
+                let failures = of_1.iter().copied().chain(crash).chain(of_last.iter().copied());
+                let failures: Vec<Failure> = failures.collect();
                 if failures.len() < usize::from(n) {
-                    one_room(comparison, n, failures)?;
+                    compare_failures(comparison, n, failures)?;
                 }
             }
         }
@@ -140,7 +141,7 @@ fn dropped<M: Agreement>(comparison: &mut Comparison<M>, n: u8) -> Result<(), Di
 
 /// A ticket of `n` processes, all proposals different, with the least t that allows
 /// the failures, and an output buffer of the result's length.
-fn one_room<M: Agreement>(
+fn compare_failures<M: Agreement>(
     comparison: &mut Comparison<M>,
     n: u8,
     failures: Vec<Failure>,

@@ -43,9 +43,10 @@ pub enum Claim {
     CountsSpeakers,
     /// The messages counted of a round are as many as the processes, up and
     /// undecided when it began, that they reach.
-    CountsReached,
+    CountsCarried,
     /// They are as many as the ones in a set: of those to whom the coordinator sends,
-    /// by the step of its failure line, and who began the round up and undecided.
+    /// by the step of its failure line, and who began the round up and undecided; and
+    /// none if the coordinator does not speak.
     CountsBySets,
     /// The counts in a process's line are those of its own round if it began
     /// that up and undecided, and else 0.
@@ -84,7 +85,7 @@ pub const CLAIMS: [Claim; 22] = [
     Claim::CommitsWithinBound,
     Claim::CountsRounds,
     Claim::CountsSpeakers,
-    Claim::CountsReached,
+    Claim::CountsCarried,
     Claim::CountsBySets,
     Claim::CountsOwnRound,
     Claim::CountsAddUp,
@@ -111,7 +112,7 @@ impl fmt::Display for Claim {
             Claim::CommitsWithinBound => write!(f, "commits at most n less the speakers"),
             Claim::CountsRounds => write!(f, "rounds end when none is undecided"),
             Claim::CountsSpeakers => write!(f, "speakers begin their rounds undecided"),
-            Claim::CountsReached => write!(f, "messages counted are those to the undecided"),
+            Claim::CountsCarried => write!(f, "messages counted are those to the undecided"),
             Claim::CountsBySets => write!(f, "messages counted are the ones of a set"),
             Claim::CountsOwnRound => write!(f, "counts by process are those of its own round"),
             Claim::CountsAddUp => write!(f, "counts by process add up"),
@@ -174,10 +175,10 @@ impl Claim {
                 run.counts.speakers
                     == own.filter(|&state| right::is_undecided(state)).count() as u64
             }
-            Claim::CountsReached => (1..=run.last_round())
-                .all(|round| run.messages(round, rules) == run.reached(round, rules)),
+            Claim::CountsCarried => (1..=run.last_round())
+                .all(|round| run.messages(round, rules) == run.carried(round, rules)),
             Claim::CountsBySets => (1..).zip(rounds(run)).all(|(round, states)| {
-                run.messages(round, rules) == ones(round, states, run, rules)
+                run.counted(round, rules) == counted_by_sets(round, states, run, rules)
             }),
             Claim::CountsOwnRound => (1..).zip(&run.shown).all(|(process, &shown)| {
                 let sends = process <= run.last_round()
@@ -217,8 +218,17 @@ fn rounds(run: &Run) -> impl Iterator<Item = &[State]> {
     run.history[..run.history.len() - 1].iter().map(Vec::as_slice)
 }
 
-/// The data messages and the commits of a round that begins with these states, as
-/// the ones of the sets of those to whom they are counted.
+/// The data messages and the commits of a round that begins with these states: the
+/// ones of the sets of those to whom they are counted, if its coordinator speaks.
+fn counted_by_sets(round: u8, states: &[State], run: &Run, rules: &Rules) -> Messages {
+    if (rules.speaks)(states[usize::from(round) - 1]) {
+        ones(round, states, run, rules)
+    } else {
+        (0, 0)
+    }
+}
+
+/// The ones of those sets.
 fn ones(round: u8, states: &[State], run: &Run, rules: &Rules) -> Messages {
     let line = run.faults[usize::from(round) - 1].filter(|failure| failure.round == round);
     let above = processes_above(round, run.n);

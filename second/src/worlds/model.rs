@@ -1,7 +1,7 @@
 //! The rounds as a small model: what every process becomes in a round, as a
 //! function of all states before it, under [`Rules`] that can be wrong.
 
-use super::rules::Rules;
+use super::rules::{right, Rules};
 use crate::ticket::{Failure, Ticket};
 
 /// A process between two rounds.
@@ -47,6 +47,8 @@ pub struct Sending {
     /// The processes that have crashed or crash in this round; bit j − 1
     /// stands for process j.
     pub crashed: u64,
+    /// Those that began this round crashed or decided.
+    pub ended: u64,
 }
 
 /// One undecided process at the end of a round.
@@ -235,7 +237,8 @@ impl Run {
             let State::Undecided(estimate) = state else {
                 return state;
             };
-            let heard = (rules.hears)(self.reach(&sending, process, rules), sent_by);
+            let listed = Sending { n: (rules.commit_list)(&sending, process), ..sending };
+            let heard = (rules.hears)(self.reach(&listed, process, rules), sent_by);
             let step = Step { round, process, estimate, heard };
             let crashes = self.crashes_in(round, process);
             (if crashes { rules.crashes } else { rules.receives })(&step)
@@ -245,24 +248,23 @@ impl Run {
 
     /// What sending looks at in a round that begins with these states.
     fn sending(&self, round: u8, states: &[State]) -> Sending {
-        Sending { n: self.n, round, crashed: self.crashed_by(round, states) }
+        let ended = set_of(states, |_, state| !right::is_undecided(state));
+        Sending { n: self.n, round, crashed: self.crashed_by(round, states), ended }
     }
 
     /// How far the messages of the round's coordinator get to process `to`.
     fn reach(&self, sending: &Sending, to: u8, rules: &Rules) -> Reach {
         let fault = self.fault((rules.coordinator)(sending.round, self.n));
-        let sending = Sending { n: (rules.commit_list)(sending, to), ..*sending };
-        reach(&sending, fault, to, rules)
+        reach(sending, fault, to, rules)
     }
 
     /// The set of processes that have crashed or crash in `round`.
     fn crashed_by(&self, round: u8, states: &[State]) -> u64 {
-        let crashed = |&(process, state): &(u8, &State)| match state {
+        set_of(states, |process, state| match state {
             State::Undecided(_) => self.crashes_in(round, process),
             State::Decided(..) => false,
             State::Crashed(_) => true,
-        };
-        (1..).zip(states).filter(crashed).fold(0, |set, (process, _)| set | 1 << (process - 1))
+        })
     }
 
     /// What `rules` count of this run's rounds, and the counts that stand in the
@@ -273,11 +275,8 @@ impl Run {
         for (place, states) in (1..=self.last_round()).zip(&self.history) {
             let round = (rules.round_run)(place);
             let goes_on = states.iter().any(|&state| (rules.is_undecided)(state));
-            let coordinator = (rules.coordinator)(round, self.n);
-            let speaks = (rules.speaks)(states[usize::from(coordinator) - 1]);
-            let counts_messages = speaks || rules.silent_counts;
-            let (data, commits) =
-                if counts_messages { self.messages(place, rules) } else { (0, 0) };
+            let speaks = self.speaks(place, rules);
+            let (data, commits) = self.counted(place, rules);
             if (rules.round_counts)(goes_on, speaks, data) {
                 counts.rounds = round;
             }
@@ -296,8 +295,24 @@ impl Run {
         (counts, shown)
     }
 
-    /// The data messages and the commits that `rules` count of the round that is
-    /// run in this place, if its coordinator speaks.
+    /// Whether the coordinator of the round that is run in this place is a speaker.
+    fn speaks(&self, place: u8, rules: &Rules) -> bool {
+        let coordinator = (rules.coordinator)((rules.round_run)(place), self.n);
+        (rules.speaks)(self.history[usize::from(place) - 1][usize::from(coordinator) - 1])
+    }
+
+    /// The data messages and the commits that `rules` count of that round: none if
+    /// its coordinator is no speaker.
+    pub fn counted(&self, place: u8, rules: &Rules) -> Messages {
+        if self.speaks(place, rules) || rules.silent_counts {
+            self.messages(place, rules)
+        } else {
+            (0, 0)
+        }
+    }
+
+    /// The data messages and the commits that `rules` count of that round if its
+    /// coordinator is a speaker.
     pub fn messages(&self, place: u8, rules: &Rules) -> Messages {
         self.addressees(place, rules, |to, kind| {
             (rules.is_sent)(to, kind) && (rules.is_carried)(to, kind)
@@ -306,7 +321,7 @@ impl Run {
 
     /// How many processes the data messages of that round reach, and how many its
     /// commits, of those that end in it or later: these began it up and undecided.
-    pub fn reached(&self, place: u8, rules: &Rules) -> Messages {
+    pub fn carried(&self, place: u8, rules: &Rules) -> Messages {
         let ends_before = |process: u8| match self.ends()[usize::from(process) - 1] {
             State::Undecided(_) => false,
             State::Decided(round, _) | State::Crashed(round) => round < place,
@@ -350,6 +365,13 @@ impl Run {
         let may_settle = |&round: &u8| (rules.may_settle)(round, self.counts.rounds, last);
         (0..=last).filter(may_settle).filter(one_value).collect()
     }
+}
+
+/// The set of the processes that are members by their number and state; bit j − 1
+/// stands for process j.
+fn set_of(states: &[State], is_member: impl Fn(u8, State) -> bool) -> u64 {
+    let members = (1..).zip(states).filter(|&(process, &state)| is_member(process, state));
+    members.fold(0, |set, (process, _)| set | 1 << (process - 1))
 }
 
 /// Whether a process has a failure line that counts in f, if it ends so.

@@ -22,7 +22,8 @@ pub struct Rules {
     pub round_run: fn(u8) -> u8,
     /// The process whose state and failure line the messages of a round go by.
     pub coordinator: fn(round: u8, n: u8) -> u8,
-    /// n, as the commits to a process are counted off by it.
+    /// n, as the commits to a process are counted off by it in what it hears. What is
+    /// counted of a round goes by n itself.
     pub commit_list: fn(&Sending, to: u8) -> u8,
     /// How far messages to a process get from a coordinator that crashes so.
     pub reach_of_crashing: fn(&Sending, Crash, to: u8) -> Reach,

@@ -95,6 +95,12 @@ const ROUNDS: &[World] = &[
         &[Agreement, CrashesAsSaid, CountsCrashed, LastRoundSettles],
         Rules { crashes: |step| step.decides(step.estimate), ..RIGHT },
     ),
+    // The commits still go downward, so that no claim about all tickets fails.
+    world(
+        "coordinator/ended-left-out-of-the-commit-list",
+        &[WorkedRun("case 9")],
+        Rules { commit_list: |sending, to| sending.n - above(sending.ended, to), ..RIGHT },
+    ),
     world(
         "coordinator/fault-of-another-round-cuts-commits",
         &[EarlyDecision, SpeakersWithinBound, CountsBySets, IdleLinesChangeNothing],
@@ -132,8 +138,8 @@ const MISTAKES: &[World] = &[
     ),
     world(
         "coordinator/crashed-left-out-of-the-commit-list",
-        &[NoLater, CountsBySets],
-        Rules { commit_list: |sending, to| sending.n - crashed_above(sending, to), ..RIGHT },
+        &[NoLater],
+        Rules { commit_list: |sending, to| sending.n - above(sending.crashed, to), ..RIGHT },
     ),
     world(
         "consensus/idle-lines-counted-in-f",
@@ -173,9 +179,9 @@ fn commits_reach(
     }
 }
 
-/// How many processes above `process` have crashed.
-fn crashed_above(sending: &Sending, process: u8) -> u8 {
-    (sending.crashed >> process).count_ones() as u8
+/// How many processes above `process` are in a set.
+fn above(set: u64, process: u8) -> u8 {
+    (set >> process).count_ones() as u8
 }
 
 /// Document 01's impostors, and other coordinators.
@@ -361,47 +367,53 @@ const COUNTS: &[World] = &[
 const CARRIED: &[World] = &[
     world(
         "coordinator/unsent-messages-counted",
-        &[CountsReached, CountsBySets, MessagesWithinBound, CommitsWithinBound],
+        &[CountsCarried, CountsBySets, MessagesWithinBound, CommitsWithinBound],
         Rules { is_sent: |to, _| to.process > to.round, ..RIGHT },
     ),
     world(
         "coordinator/undecided-counted-as-data",
-        &[CountsReached, CountsBySets, MessagesWithinBound, CountsThoseAbove],
+        &[CountsCarried, CountsBySets, MessagesWithinBound, CountsThoseAbove],
         Rules { is_sent: |to, kind| kind == Kind::Data || to.gets(kind), ..RIGHT },
     ),
     world(
         "coordinator/data-counted-as-the-commits",
-        &[CountsReached, CountsBySets],
+        &[CountsCarried, CountsBySets],
         Rules { is_sent: |to, _| to.gets(Kind::Commit), ..RIGHT },
     ),
     world(
         "coordinator/unsent-commits-counted",
-        &[CountsReached, CountsBySets, MessagesWithinBound, CommitsWithinBound],
+        &[CountsCarried, CountsBySets, MessagesWithinBound, CommitsWithinBound],
         Rules { is_sent: |to, _| to.gets(Kind::Data), ..RIGHT },
     ),
     world(
         "a coordinator is counted among those that it sends data to",
-        &[CountsReached, CountsBySets, MessagesWithinBound, CountsThoseAbove],
-        Rules { is_sent: |to, kind| is_own(to) && kind == Kind::Data || to.gets(kind), ..RIGHT },
+        &[CountsCarried, CountsBySets, MessagesWithinBound, CountsThoseAbove],
+        Rules {
+            is_sent: |to, kind| is_coordinator(to) && kind == Kind::Data || to.gets(kind),
+            ..RIGHT
+        },
     ),
     world(
         "a coordinator is counted among those that it sends commits to",
-        &[CountsReached, CountsBySets, MessagesWithinBound, CommitsWithinBound, CountsThoseAbove],
-        Rules { is_sent: |to, kind| is_own(to) && kind == Kind::Commit || to.gets(kind), ..RIGHT },
+        &[CountsCarried, CountsBySets, MessagesWithinBound, CommitsWithinBound, CountsThoseAbove],
+        Rules {
+            is_sent: |to, kind| is_coordinator(to) && kind == Kind::Commit || to.gets(kind),
+            ..RIGHT
+        },
     ),
     world(
         "coordinator/messages-of-silent-coordinators-counted",
-        &[CommitsWithinBound, CountsOwnRound],
+        &[CommitsWithinBound, CountsBySets, CountsOwnRound],
         Rules { silent_counts: true, ..RIGHT },
     ),
     world(
         "coordinator/every-addressee-counted",
-        &[CountsReached, CountsBySets, CommitsWithinBound],
+        &[CountsCarried, CountsBySets, CommitsWithinBound],
         Rules { is_carried: |_, _| true, ..RIGHT },
     ),
     world(
         "data to the crashed and to the decided are counted",
-        &[CountsReached, CountsBySets],
+        &[CountsCarried, CountsBySets],
         Rules {
             is_carried: |to, kind| kind == Kind::Data || right::is_undecided(to.before),
             ..RIGHT
@@ -409,7 +421,7 @@ const CARRIED: &[World] = &[
     ),
     world(
         "commits to the crashed and to the decided are counted",
-        &[CountsReached, CountsBySets, CommitsWithinBound],
+        &[CountsCarried, CountsBySets, CommitsWithinBound],
         Rules {
             is_carried: |to, kind| kind == Kind::Commit || right::is_undecided(to.before),
             ..RIGHT
@@ -417,17 +429,17 @@ const CARRIED: &[World] = &[
     ),
     world(
         "coordinator/messages-to-the-crashed-counted",
-        &[CountsReached, CountsBySets, CommitsWithinBound],
+        &[CountsCarried, CountsBySets, CommitsWithinBound],
         Rules { is_carried: |to, _| !has_decided(to.before), ..RIGHT },
     ),
     world(
         "coordinator/messages-to-the-decided-counted",
-        &[CountsReached, CountsBySets, CommitsWithinBound],
+        &[CountsCarried, CountsBySets, CommitsWithinBound],
         Rules { is_carried: |to, _| !has_crashed(to.before), ..RIGHT },
     ),
     world(
         "coordinator/addressees-that-crash-in-the-round-left-out",
-        &[CountsReached, CountsBySets],
+        &[CountsCarried, CountsBySets],
         Rules {
             is_carried: |to, _| right::is_undecided(to.before) && !has_crashed(to.after),
             ..RIGHT
@@ -435,13 +447,13 @@ const CARRIED: &[World] = &[
     ),
     world(
         "coordinator/addressees-counted-as-the-round-ends",
-        &[CountsReached, CountsBySets],
+        &[CountsCarried, CountsBySets],
         Rules { is_carried: |to, _| right::is_undecided(to.after), ..RIGHT },
     ),
 ];
 
 /// Whether a process is the round's coordinator.
-fn is_own(to: &Addressee) -> bool {
+fn is_coordinator(to: &Addressee) -> bool {
     to.process == to.round
 }
 
