@@ -6,9 +6,9 @@
 # make vectors                compute the definitions on every vector of tests/vectors/
 # make vectors-part           the same on a part that has every kind of vector
 # make library-test           the compiled library on every vector of tests/vectors/
-# make host-test              simulate and examples/host on every ticket of tests/vectors/, examples/frames on those of Papers 2 and 4, and what cannot be read or written
+# make host-test              simulate and examples/host on every ticket of tests/vectors/, examples/frames on those of Papers 2 and 4, examples/report on those of Paper 6, and what cannot be read or written
 # make interface-test         the header's prototypes against the library's, and docs/FORMATS.md against the header
-# make show-test              explain and picture on every ticket of tests/vectors/
+# make show-test              explain and picture on every ticket of tests/vectors/, the settling round as the library answers it
 # make second-test            the second implementation's own tests
 # make wrong-worlds           wrong rules of the protocol, and a counterexample to each claim that fails under them
 # make unused                 list definitions, lemmas and imports that nothing uses, and edits that docs/COVERAGE.md names and that are not there
@@ -38,7 +38,7 @@ COVERAGE_FLAGS = -Cpasses=sancov-module -Cllvm-args=-sanitizer-coverage-level=3 
 .PHONY: all help prove ticket-named simulate-built run explain picture test vectors vectors-part unused second-test wrong-worlds library-test host-test \
   interface-test show-test compare compare-short bench fuzz pictures install
 
-all: prove $(LIBRARY) target/bin/host target/bin/frames
+all: prove $(LIBRARY) target/bin/host target/bin/frames target/bin/report
 
 help:
 	@sed -n '/^#/!q; s/^# //p' Makefile
@@ -94,8 +94,8 @@ target/bin/calls: tests/calls.c include/agreement.h $(LIBRARY)
 	mkdir -p target/bin
 	$(CC) $(CFLAGS_STRICT) $(SANITIZERS) tests/calls.c $(LIBRARY) -o $@
 
-host-test: target/bin/host target/bin/host-sanitized target/bin/frames target/bin/frames-sanitized target/bin/simulate
-	tools/host-test target/bin/host-sanitized target/bin/frames-sanitized target/bin/simulate
+host-test: target/bin/simulate $(foreach example,host frames report,target/bin/$(example) target/bin/$(example)-sanitized)
+	tools/host-test target/bin/host-sanitized target/bin/frames-sanitized target/bin/report-sanitized target/bin/simulate
 
 library-test: target/bin/calls
 	tools/library-test target/bin/calls
@@ -103,8 +103,8 @@ library-test: target/bin/calls
 interface-test: $(LIBRARY)
 	tools/interface-test $(LIBRARY)
 
-show-test: target/bin/simulate
-	tools/show-test target/bin/simulate
+show-test: target/bin/simulate target/bin/calls
+	tools/show-test target/bin/simulate target/bin/calls
 
 unused:
 	tools/unused

@@ -15,14 +15,13 @@
  *
  * TOTAL
  *   For pointers as above every call is defined on every input: any bytes, any length, any number. What it answers is
- *   what its prototype says: one number, but of uc_settle any of the rounds that qualify. A call that is refused changes
- *   no byte. That is proved, for each call, of the code that this library is compiled from.
+ *   the one number that its prototype says. A call that is refused changes no byte. That is proved, for each call, of the
+ *   code that this library is compiled from.
  *
  * A TICKET is text of at most 4,096 bytes. A line is an even, non-zero count of digits 0-9, A-F and a-f, closed by byte
  * 0A. Letters are of either case, mixed in a line and in a byte as they come: two tickets that differ in the case of
- * letters alone, run into equal buffers, get the same answer and leave the same bytes; settling them gives the same
- * refusal, or a round that qualifies for both. Two digits make a byte, numbers have their most significant byte first,
- * and the first byte is the kind:
+ * letters alone, run into equal buffers, get the same answer and leave the same bytes, and settling them gives the same
+ * answer. Two digits make a byte, numbers have their most significant byte first, and the first byte is the kind:
  *
  *   01 n t                            once: n processes, 1 to 64, of which at most t < n crash
  *   02 process value(4)               n lines, processes 1 to n in order: what each proposes
@@ -60,6 +59,8 @@
  *               110301020000000A0000
  *               110401010000000A0000          process 4 had the one commit, and decided in round 1
  *               1202010200040002              2 rounds, f 1, 2 speakers, 4 data frames, 2 commits
+ *
+ * It settles in round 1 (uc_settle): at its end processes 2, 3 and 4 hold 0000000A, adopted or decided.
  *
  * The program `simulate` writes a refusal as one line, 1F number line(2), and uc_run answers it: see UC_REFUSALS.
  *
@@ -130,7 +131,7 @@ extern "C" {
 #endif
 
 /* The version of this header and of the library that is installed with it. */
-#define UC_VERSION "1.4"
+#define UC_VERSION "1.5"
 
 /* The most processes. */
 #define UC_MOST_PROCESSES 64
@@ -289,10 +290,20 @@ static inline unsigned uc_line_byte(const uint8_t *line, unsigned place)
 uint64_t uc_run(const uint8_t *ticket, size_t ticket_len, uint8_t *output, size_t output_len);
 
 /*
- * uc_settle - name a settling round of a ticket
+ * uc_settle - name the settling round of a ticket
  *
- * Answers a round, from 1 to the run's rounds, at whose end all processes that have not crashed hold one value. Which
- * one of those rounds is not promised. Or 65536 * number + line for refusal `number`, 1 to 8.
+ *   ticket, ticket_len   the ticket's text
+ *
+ * Answers the settling round, from 1 to the run's rounds, which are at most 64: the lowest at whose end all processes that
+ * have not crashed, in that round or before, hold one value, be it decided, adopted or still their own proposal. At the
+ * end of every later round of the run they hold one value too; it is the value that is decided (that of any line 11 with
+ * end 01), and nobody decides before the settling round. It tells when a simulated run had settled: no process knows that
+ * at the time, and a desk may price when its own part has decided. Or 65536 * number + line for refusal `number`, 1 to 8,
+ * at line `line` of the ticket: those of uc_run, in the same order and with the same lines (0 goes with refusal 1); there is
+ * no refusal 9. uc_settle_refusal and uc_settle_line take the answer apart. No byte is changed in either case.
+ *
+ * (Not part of the promise: it goes through the rounds of the run once, and no further than the settling round. Up to
+ * version 1.4 the answer was the run's last round, which is one of those that qualify.)
  */
 uint64_t uc_settle(const uint8_t *ticket, size_t ticket_len);
 

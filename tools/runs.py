@@ -1,10 +1,11 @@
 """Tickets and results as tools/draw-run, tools/explain-run and tools/show-test look at them.
 
-What a ticket is answered is never worked out here: it is read off what `simulate` writes. What is worked out is how the
-run came there (who sent what to whom, what of it the switch carried, who heard it, who held which value), from the ticket's
-failure lines and from the result, which says who had decided or crashed when; and `contradictions` says where the two do not
-add up. The result counts what was carried: a frame to a process that was up and undecided when the round began. Of a refusal,
-`reasons` says which of the things that its text names is the case.
+What running a ticket answers is never worked out here: it is read off what `simulate` writes. What is worked out is how the run
+came there (who sent what to whom, what of it the switch carried, who heard it, who held which value, and so in which round
+all held one), from the ticket's failure lines and from the result, which says who had decided or crashed when; and
+`contradictions` says where the two do not add up. (The settling round is what `uc_settle` answers: tools/show-test holds it
+to that.) The result counts what was carried: a frame to a process that was up and undecided when the round began. Of a
+refusal, `reasons` says which of the things that its text names is the case.
 """
 
 from __future__ import annotations
@@ -159,6 +160,10 @@ class Process:
     def crashes_in(self, round_number):
         return self.end == CRASHED and self.round == round_number
 
+    def crashed_by(self, round_number):
+        """Crashed when that round ends."""
+        return self.end == CRASHED and self.round <= round_number
+
     def decides_in(self, round_number):
         return self.end == DECIDED and self.round == round_number
 
@@ -295,6 +300,25 @@ def play(run):
         run.rounds.append(Round(round_number, coordinator, value, messages, dict(held)))
 
 
+def not_crashed(run, played):
+    """The processes that have not crashed when a round ends."""
+    return [process for process in run.processes if not process.crashed_by(played.number)]
+
+
+def settling_round(run):
+    """The first round at whose end all processes that have not crashed hold one value (02, Paper 6); none if there is no such round."""
+    for played in run.rounds:
+        if len({played.held[process.id] for process in not_crashed(run, played)}) == 1:
+            return played
+    return None
+
+
+def settled_value(run):
+    """The value that they hold then."""
+    played = settling_round(run)
+    return played.held[not_crashed(run, played)[0].id]
+
+
 def contradicting_counts(run):
     """Where the frames that were carried and the result's counts of them do not add up."""
     wrong = []
@@ -328,6 +352,8 @@ def contradictions(run):
         said = {process.id for process in run.processes if process.decides_in(played.number)}
         if deciders != said:
             wrong.append(f"round {played.number}: {names(deciders)} decide, but the result says {names(said)}")
+    if not settling_round(run):
+        wrong.append("at the end of no round all processes that have not crashed hold one value")
     for process in run.processes:
         held = run.rounds[-1].held[process.id] if run.rounds else process.proposal
         if process.end == DECIDED and process.value != held:
@@ -500,6 +526,18 @@ def dropped_text(played):
     ended = ((fate, [process for process in data if process.end == end]) for end, fate in ((DECIDED, "decided"), (CRASHED, "crashed")))
     why = [names(those) + f" {'has' if len(those) == 1 else 'have'} {fate}" for fate, those in ended if those]
     return f"{what} ({', '.join(why)})"
+
+
+def settled_text(run):
+    """When a run settled, on which value, and who held it then; nothing of one that did not."""
+    played = settling_round(run)
+    if not played:
+        return ""
+    those, value = not_crashed(run, played), value_text(settled_value(run))
+    held = f"all that have not crashed, {names(those)}, hold {value}"
+    if len(those) == 1:
+        held = f"{names(those)}, which alone has not crashed, holds {value}" if run.n > 1 else f"{names(those)} holds {value}"
+    return f"Settled in round {played.number}: at its end {held}."
 
 
 def failure_text(run, process):

@@ -12,6 +12,9 @@ two counts of line 12 (`comparable_result`, `comparable`); and where the room ma
 (`output`). The counts of before Paper 4, which are of all frames that were sent, are those of `result` in base.jsonl, paper-01.jsonl
 and paper-02.jsonl (`COUNTED_AS_SENT`, `result_before`): tools/show-test and second/tests/vectors.rs hold to them what is carried and
 what is dropped.
+
+Settling answers the lowest round that qualifies (Paper 6): the first of those that base.jsonl lists, and what paper-06.jsonl says, which
+has the rounds of the run too and nothing else of what running writes (`settlings`).
 """
 
 from __future__ import annotations
@@ -24,6 +27,7 @@ FOLDER = os.path.join(os.path.dirname(os.path.dirname(os.path.abspath(__file__))
 BASE, DESK = "base", "desk"
 PAPERS = ["paper-01", "paper-02", "paper-03", "paper-04"]  # whose vectors are of running a ticket
 TICKET_FILES = [BASE, *PAPERS]
+SETTLING = "paper-06"  # whose vectors are of settling a ticket
 COUNTED_AS_SENT = [BASE, "paper-01", "paper-02"]  # whose `result` is of before Paper 4
 FLOOD = (b"05", b"06")  # how a ticket begins that is refused until Paper 5 lands
 COUNTS = 4  # digits at the end of a process's line, two for each count (Paper 2)
@@ -43,12 +47,32 @@ class Entry:
 
 
 @dataclass
-class Ticket:
-    """A ticket that is run, and what is written."""
+class Vector:
+    """A line of a file."""
 
     file: str
     number: int  # of the line in the file, from 1
     about: str
+
+    @property
+    def place(self):
+        return f"{self.file}.jsonl, line {self.number}"
+
+
+@dataclass
+class Settling(Vector):
+    """A ticket that is settled, and what is answered."""
+
+    text: bytes
+    refusal: tuple | None  # its number and line
+    round: int | None  # the settling round of an accepted ticket
+    run_rounds: int | None  # those of its run, where the file says it
+
+
+@dataclass
+class Ticket(Vector):
+    """A ticket that is run, and what is written."""
+
     texts: list  # the ticket's bytes, and where it has letters often the same ticket in other letters
     result: str
     result_before: str  # what was written when the papers up to the file's had landed
@@ -57,8 +81,12 @@ class Ticket:
     entry: Entry | None  # of the byte that stands in the ticket for two digits, in the file of Paper 3
 
     @property
-    def place(self):
-        return f"{self.file}.jsonl, line {self.number}"
+    def settling(self):
+        """What settling it answers, where the file says it."""
+        if self.file != BASE:
+            return None
+        refusal, settled = (None, self.settling_rounds[0]) if self.settling_rounds else (self.refusal, None)
+        return Settling(self.file, self.number, self.about, self.texts[0], refusal, settled, None)
 
     @property
     def process_lines_without_counts(self):
@@ -154,6 +182,19 @@ def tickets(*files):
         for number, vector in objects(file)
         for texts in [texts_of(file, vector)]
     ]
+
+
+def settling_of(number, vector):
+    """A vector of Paper 6."""
+    refusal = vector.get("refusal")
+    numbers = (refusal["number"], refusal["line"]) if refusal else None
+    text = text_of(vector, "ticket")
+    return Settling(SETTLING, number, vector["about"], text, numbers, vector.get("settling_round"), vector.get("run_rounds"))
+
+
+def settlings():
+    """The tickets of Paper 6, whose settling round is told by itself."""
+    return [settling_of(number, vector) for number, vector in objects(SETTLING)]
 
 
 def calls():

@@ -7,7 +7,8 @@
  * those written left alone, of every result that the processes agree (document
  * 01, and demand 3), that it has no small letter, that the counts of its
  * processes are possible by its own ends and add up, and that they are within
- * the bounds by speakers (document 02, Papers 2 and 4), and that
+ * the bounds by speakers (document 02, Papers 2 and 4), that nobody decides
+ * before the settling round (Paper 6), and that
  * a ticket in other letters is answered alike and leaves the same bytes (Paper
  * 1); and then that the second implementation answers alike and leaves the same
  * bytes.
@@ -29,7 +30,7 @@ uint64_t uc_close(uint8_t *state, size_t state_len, const uint8_t *heard, size_t
 
 /* The second implementation (src/lib.rs). */
 uint64_t second_run(const uint8_t *ticket, size_t ticket_len, uint8_t *output, size_t output_len);
-_Bool second_settles(const uint8_t *ticket, size_t ticket_len, uint64_t answer);
+uint64_t second_settle(const uint8_t *ticket, size_t ticket_len);
 uint64_t second_start(uint64_t process, uint64_t n, uint64_t t, uint32_t value, uint8_t *state,
                       size_t state_len);
 uint64_t second_speak(const uint8_t *state, size_t state_len, uint8_t *output, size_t output_len);
@@ -278,7 +279,7 @@ static void check_run_in_other_letters(Input ticket, uint64_t answer, Lent outpu
 static void check_settling_in_other_letters(Input ticket, uint64_t answer) {
     Lent text = lend_in_other_letters(ticket);
     CHECK(uc_settle(text.bytes, text.length) == answer);
-    CHECK(second_settles(text.bytes, text.length, answer));
+    CHECK(second_settle(text.bytes, text.length) == answer);
     take_back(text);
 }
 
@@ -309,18 +310,34 @@ static void fuzz_run(Input input) {
     take_back(second_output);
 }
 
+/* The settling round of an accepted ticket with this result is one of the run's, and
+ * nobody decides before it: with a commit the value has gone to all that are up. If
+ * all propose one value, it is round 1. */
+static void check_settling_round(uint64_t round, const uint8_t *result, Input ticket) {
+    uint32_t n = number_in(ticket.bytes, 1, 1);
+    const uint8_t *proposals = ticket.bytes + 7;
+    uint32_t one_proposal = 1;
+    CHECK(1 <= round && round <= number_in(line_of(result, n + 1), 1, 1));
+    for (uint32_t process = 1; process <= n; process++) {
+        const uint8_t *line = line_of(result, process);
+        if (number_in(line, 2, 1) == 1) CHECK(round <= number_in(line, 3, 1));
+        one_proposal &= number_in(proposals + 13 * (process - 1), 2, 4) == number_in(proposals, 2, 4);
+    }
+    if (one_proposal) CHECK(round == 1);
+}
+
 static void fuzz_settle(Input input) {
     uint8_t result[LONGEST_RESULT];
     uint64_t written = run_ample(input, result);
     Lent text = lend(input.bytes, input.length);
     uint64_t answer = uc_settle(text.bytes, text.length);
-    CHECK(second_settles(text.bytes, text.length, answer));
+    CHECK(second_settle(text.bytes, text.length) == answer);
     check_settling_in_other_letters(input, answer);
     if (written >= REFUSED) {
         CHECK(answer == written);
         check_refusal(answer, input, 8);
     } else {
-        CHECK(1 <= answer && answer <= number_in(result + written - LAST_LINE, 1, 1));
+        check_settling_round(answer, result, input);
     }
     CHECK(memcmp(text.bytes, input.bytes, input.length) == 0);
     take_back(text);

@@ -52,6 +52,11 @@ pub fn corpus(seed: u64, count: usize) -> Vec<Entry> {
     entries
 }
 
+/// The corpus that is stored.
+pub fn stored() -> Vec<Entry> {
+    corpus(1, STORED)
+}
+
 fn systematic(rng: &mut Rng) -> Vec<Entry> {
     let mut entries: Vec<Entry> =
         (1..=worked::CASES).map(|number| Entry::ample(worked::case(number).text())).collect();
@@ -497,7 +502,7 @@ mod tests {
 
     #[test]
     fn replay_takes_every_entry() {
-        let entries = corpus(1, STORED);
+        let entries = stored();
         assert_eq!(entries.len(), STORED);
         assert!(entries.iter().all(|entry| entry.text.len() <= LONGEST_TEXT));
         assert!(entries.iter().all(|entry| entry.room <= LONGEST_ROOM));
@@ -532,7 +537,7 @@ mod tests {
             assert!(in_one_byte(&[letter, capital]) && in_one_byte(&[capital, letter]));
             assert!(in_one_byte(&[letter, letter]));
         }
-        let corpus = corpus(1, STORED);
+        let corpus = stored();
         assert!(entries.iter().all(|entry| corpus.contains(entry)));
         let accepted = corpus.iter().zip(answers(&corpus)).filter(|(_, answer)| answer.is_ok());
         let (mut small, mut mixed) = (0, 0);
@@ -606,7 +611,7 @@ mod tests {
 
     #[test]
     fn messages_go_to_each_kind_of_addressee_alone_and_to_all() {
-        let (entries, corpus) = (addressees(), corpus(1, STORED));
+        let (entries, corpus) = (addressees(), stored());
         assert!(entries.len() == 21 && entries.iter().all(|entry| corpus.contains(entry)));
         let tickets = entries.iter().map(|entry| Ticket::parse(&entry.text).expect("accepted"));
         let shown: Vec<_> = tickets.map(|ticket| addressed(&ticket)).collect();
@@ -617,6 +622,28 @@ mod tests {
             assert!(shown.contains(&alone), "{alone:?}");
         }
         assert!(shown.contains(&[both, both, data]) && shown.contains(&[both; 3]));
+    }
+
+    /// 02, Paper 6: the stored tickets tell the first settling round from the last
+    /// round, from the one behind it, and from that of the first decision.
+    #[test]
+    fn stored_tickets_settle_in_the_first_a_middle_and_the_last_round() {
+        let (mut first, mut middle, mut last, mut undecided) = (0, 0, 0, 0);
+        for ticket in stored().iter().filter_map(|entry| Ticket::parse(&entry.text).ok()) {
+            let settled = Simulator::new().settling_round(&ticket.text()).expect("accepted");
+            let mut decides_then = false;
+            let rounds = Simulation::new(&ticket).run(|round, processes| {
+                let decided = |process: &Process| process.status() == Status::Decided(round);
+                decides_then |= round == settled && processes.iter().any(decided);
+            });
+            let rounds = rounds.rounds;
+            first += usize::from(settled == 1 && rounds > 1);
+            middle += usize::from(1 < settled && settled < rounds);
+            last += usize::from(1 < settled && settled == rounds);
+            undecided += usize::from(!decides_then);
+        }
+        let tried = [first, middle, last, undecided];
+        assert!(tried.iter().all(|&count| count > 5), "{tried:?}");
     }
 
     #[test]

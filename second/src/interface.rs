@@ -13,7 +13,7 @@ pub trait Agreement {
     /// Runs a ticket: the bytes written, or 65536 · number + line (1 to 9).
     fn run(&mut self, ticket: &[u8], output: &mut [u8]) -> u64;
 
-    /// Settling: a round that qualifies, or 65536 · number + line (1 to 8).
+    /// Settling: the lowest round that qualifies, or 65536 · number + line (1 to 8).
     fn settle(&mut self, ticket: &[u8]) -> u64;
 
     /// Starts a process: 0, or refusal 10.
@@ -35,7 +35,6 @@ fn answer<T>(result: Result<T, Reason>, accepted: impl FnOnce(T) -> u64) -> u64 
     result.map_or_else(|reason| u64::from(reason.number()), accepted)
 }
 
-/// Of the rounds that qualify, settling answers the first.
 impl Agreement for Simulator {
     fn run(&mut self, ticket: &[u8], output: &mut [u8]) -> u64 {
         let written = Simulator::run(self, ticket, output);
@@ -43,8 +42,7 @@ impl Agreement for Simulator {
     }
 
     fn settle(&mut self, ticket: &[u8]) -> u64 {
-        let rounds = self.settling_rounds(ticket);
-        rounds.map_or_else(refused, |rounds| u64::from(rounds[0]))
+        self.settling_round(ticket).map_or_else(refused, u64::from)
     }
 
     fn start(&mut self, process: u64, n: u64, t: u64, value: u32, state: &mut [u8]) -> u64 {

@@ -1,5 +1,5 @@
 //! A second implementation of document 01's base version and of document 02's
-//! Papers 1 to 4, written from the papers alone and in a shape of its own: a run
+//! Papers 1 to 4 and 6, written from the papers alone and in a shape of its own: a run
 //! is simulated message by message, with a mailbox for each process and a switch
 //! in between.
 //!
@@ -10,6 +10,7 @@
 //! | 02, Paper 2: the messages of each process | [`process::MessageCounts`], [`report`] |
 //! | 02, Paper 3: what each byte is as a digit, by a rule | [`lines`] |
 //! | 02, Paper 4: which messages are dropped, and so not counted | [`switch::Switch`] |
+//! | 02, Paper 6: the first settling round | [`Simulator::settling_round`] |
 //! | "A round" | [`process`], [`switch`], [`simulation`] |
 //! | "The result", refusal 9, settling | [`Simulator`], [`report`] |
 //! | "The desk part", refusals 9 to 12 | [`local`] |

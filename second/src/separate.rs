@@ -23,6 +23,16 @@ pub struct End {
     pub carried: MessageCounts,
 }
 
+/// A run by separate local parts.
+#[derive(Clone, Debug, PartialEq, Eq)]
+pub struct SeparateRun {
+    /// How each process ends.
+    pub ends: Vec<End>,
+    /// Whether at the end of a round, from round 1 to t + 1, all processes that have
+    /// not crashed hold one value.
+    pub one_value: Vec<bool>,
+}
+
 /// One process: its state, and what it has heard in this round.
 #[derive(Clone, Debug)]
 struct Local {
@@ -67,10 +77,11 @@ impl Local {
 }
 
 /// What becomes of each process, with the value it decides and what was carried
-/// of its messages, if `module` is asked for each of them in each round. An error
-/// says which call was refused.
-pub fn run_separately(module: &mut impl Agreement, ticket: &Ticket) -> Result<Vec<End>, String> {
+/// of its messages, and when all hold one value, if `module` is asked for each of
+/// them in each round. An error says which call was refused.
+pub fn run_separately(module: &mut impl Agreement, ticket: &Ticket) -> Result<SeparateRun, String> {
     let mut locals = start_all(module, ticket)?;
+    let mut one_value = Vec::with_capacity(usize::from(ticket.t) + 1);
     for round in 1..=ticket.t + 1 {
         for sender in 0..locals.len() {
             if locals[sender].is_active() {
@@ -80,8 +91,16 @@ pub fn run_separately(module: &mut impl Agreement, ticket: &Ticket) -> Result<Ve
         for local in &mut locals {
             close(module, local, round)?;
         }
+        one_value.push(hold_one_value(&locals));
     }
-    Ok(locals.iter().map(Local::end).collect())
+    Ok(SeparateRun { ends: locals.iter().map(Local::end).collect(), one_value })
+}
+
+/// Whether all processes that have not crashed hold one value.
+fn hold_one_value(locals: &[Local]) -> bool {
+    let mut up = locals.iter().filter(|local| local.crashed.is_none());
+    let first = up.next().map(Local::value);
+    up.all(|local| Some(local.value()) == first)
 }
 
 fn start_all(module: &mut impl Agreement, ticket: &Ticket) -> Result<Vec<Local>, String> {

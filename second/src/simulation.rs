@@ -59,15 +59,23 @@ impl Simulation {
     /// The run is over by round t + 1: of as many coordinators one does not
     /// crash, and no process is active after that one's round.
     pub fn run(&mut self, mut observe: impl FnMut(u8, &[Process])) -> Totals {
-        while self.processes.iter().any(Process::is_active) {
-            self.rounds += 1;
-            self.send_phase(self.rounds);
-            for process in &mut self.processes {
-                process.end_round(self.rounds);
-            }
-            observe(self.rounds, &self.processes);
+        while let Some(round) = self.next_round() {
+            observe(round, &self.processes);
         }
         self.totals()
+    }
+
+    /// Runs the next round and says which it was; nothing if the run is over.
+    pub fn next_round(&mut self) -> Option<u8> {
+        if !self.processes.iter().any(Process::is_active) {
+            return None;
+        }
+        self.rounds += 1;
+        self.send_phase(self.rounds);
+        for process in &mut self.processes {
+            process.end_round(self.rounds);
+        }
+        Some(self.rounds)
     }
 
     /// The coordinator of `round` sends, if it is active, until it crashes.

@@ -47,6 +47,19 @@ impl Simulator {
         Ok(rounds)
     }
 
+    /// The settling round, which is the lowest of these (02, Paper 6): the run goes
+    /// no further. Refusals 1 to 8.
+    pub fn settling_round(&mut self, text: &[u8]) -> Result<u8, Refusal> {
+        self.ticket.read(text)?;
+        self.simulation.reset(&self.ticket);
+        loop {
+            let round = self.simulation.next_round().expect("those that decide hold one value");
+            if hold_one_value(self.simulation.processes()) {
+                return Ok(round);
+            }
+        }
+    }
+
     /// What the program prints for `text` with an output of `room` bytes: the
     /// result lines or the refusal line, each closed by 0A.
     pub fn print(&mut self, text: &[u8], room: usize) -> String {

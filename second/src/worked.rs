@@ -38,9 +38,9 @@ pub fn case(number: u8) -> Ticket {
     }
 }
 
-/// The runs worked out by hand: cases 1 to 9, and six that show what no case
+/// The runs worked out by hand: cases 1 to 9, and eight that show what no case
 /// does. They are those of `../crates/coordinator/specs/WorkedTable.antt`.
-pub fn runs() -> [(&'static str, Ticket); 15] {
+pub fn runs() -> [(&'static str, Ticket); 17] {
     let silent = Failure::before_sending;
     let three = Ticket { n: 3, t: 2, proposals: vec![10, 20, 30], failures: vec![] };
     let three_crash = vec![Failure::sending_commits(1, 1), silent(2, 1), silent(3, 2)];
@@ -60,7 +60,16 @@ pub fn runs() -> [(&'static str, Ticket); 15] {
         ("two reached", four(vec![Failure::sending_data(1, 0b0110)])),
         ("set partly counted", set_partly_counted()),
         ("commits partly counted", commits_partly_counted()),
+        ("equal proposals", silent_in_round_1([7, 7, 7])),
+        ("value zero", silent_in_round_1([10, 0, 20])),
     ]
+}
+
+/// Process 1 of three crashes before it sends. If the proposals are equal, round 1
+/// settles without a message (02, Paper 6); a 0 is a value like any other.
+fn silent_in_round_1(proposals: [u32; 3]) -> Ticket {
+    let failures = vec![Failure::before_sending(1, 1)];
+    Ticket { n: 3, t: 1, proposals: proposals.to_vec(), failures }
 }
 
 /// In round 2 process 2 sends data to one that stays up, one that crashes in that
@@ -210,6 +219,37 @@ mod tests {
         }
     }
 
+    /// Holds the worked run of this name to its result lines and to its rounds that
+    /// qualify for settling, of which the first is named.
+    fn holds_whole(run: &str, result: &str, qualify: &[u8]) {
+        let named = runs().into_iter().find(|(name, _)| *name == run);
+        let (text, mut simulator) = (named.expect(run).1.text(), Simulator::new());
+        assert_eq!(simulator.print(&text, 2000), result);
+        assert_eq!(simulator.settling_rounds(&text).as_deref(), Ok(qualify));
+        assert_eq!(simulator.settling_round(&text), Ok(qualify[0]));
+    }
+
+    #[test]
+    fn one_crashes_later_whole() {
+        let result = "11010201000000000000\n11020202000000000000\n110301030000001E0000\n\
+                      1203020300000000\n";
+        holds_whole("one crashes later", result, &[2, 3]);
+    }
+
+    #[test]
+    fn equal_proposals_whole() {
+        let result = "11010201000000000000\n11020102000000070101\n11030102000000070000\n\
+                      1202010200010001\n";
+        holds_whole("equal proposals", result, &[1, 2]);
+    }
+
+    #[test]
+    fn value_zero_whole() {
+        let result = "11010201000000000000\n11020102000000000101\n11030102000000000000\n\
+                      1202010200010001\n";
+        holds_whole("value zero", result, &[2]);
+    }
+
     #[test]
     fn set_partly_counted_whole() {
         let result = "11010201000000000501\n11020202000000000200\n110301030000000A0000\n\
@@ -244,5 +284,18 @@ mod tests {
         };
         let rounds = Simulator::new().settling_rounds(&ticket.text());
         assert_eq!(rounds, Ok(vec![2, 3]));
+        assert_eq!(Simulator::new().settling_round(&ticket.text()), Ok(2));
+    }
+
+    /// 02, Paper 6: "Case 1 gives 1."
+    #[test]
+    fn the_settling_rounds_of_cases_1_to_9() {
+        let settling_round = |number| Simulator::new().settling_round(&case(number).text());
+        let figures = [1, 1, 1, 2, 2, 3, 1, 1, 1];
+        assert_eq!([1, 2, 3, 4, 5, 6, 7, 8, 9].map(settling_round), figures.map(Ok));
+        for number in 10..=CASES {
+            let refusal = settling_round(number).expect_err("a refusal");
+            assert_eq!(format!("{refusal}\n"), printed(number));
+        }
     }
 }

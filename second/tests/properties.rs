@@ -1,5 +1,7 @@
-//! What demands 2 and 3, the paper's bound and Papers 1, 2 and 4 of document 02
+//! What demands 2 and 3, the paper's bound and Papers 1, 2, 4 and 6 of document 02
 //! claim of every run, tried on random tickets.
+
+use std::collections::BTreeSet;
 
 use second::generate;
 use second::process::{MessageCounts, Process, Status};
@@ -184,8 +186,8 @@ fn texts_that_differ_in_the_case_of_letters_alone_are_answered_alike() {
             let shown = text.escape_ascii();
             assert_eq!(simulator.print(&other, room), printed, "{shown}");
             assert!(!printed.bytes().any(|byte| byte.is_ascii_lowercase()), "{shown}");
-            let rounds = simulator.settling_rounds(&text);
-            assert_eq!(simulator.settling_rounds(&other), rounds, "{shown}");
+            let round = simulator.settling_round(&text);
+            assert_eq!(simulator.settling_round(&other), round, "{shown}");
             differing += usize::from(other != text);
             refused += usize::from(other != text && printed.starts_with("1F"));
         }
@@ -200,6 +202,67 @@ fn separate_local_parts_decide_alike() {
         let separate = run_separately(&mut simulator, &ticket);
         let ends = run(&ticket).0.into_iter().zip(carried(&ticket));
         let ends = ends.map(|((status, value), carried)| End { status, value, carried });
-        assert_eq!(separate, Ok(ends.collect()), "{ticket}");
+        assert_eq!(separate.map(|run| run.ends), Ok(ends.collect()), "{ticket}");
+    }
+}
+
+/// The values that the processes up at the end of each round hold, those up and
+/// undecided and those that have decided apart.
+fn values_by_round(ticket: &Ticket) -> Vec<[BTreeSet<u32>; 2]> {
+    let mut by_round = Vec::new();
+    Simulation::new(ticket).run(|_, processes| {
+        let values = |is_of: fn(Status) -> bool| {
+            let processes = processes.iter().filter(|process| is_of(process.status()));
+            processes.map(Process::estimate).collect()
+        };
+        by_round.push([
+            values(|status| status == Status::Active),
+            values(|status| matches!(status, Status::Decided(_))),
+        ]);
+    });
+    by_round
+}
+
+/// 02, Paper 6: the round named qualifies, no lower one does, and every later one of
+/// the run does, by the value that is decided; nobody decides before it; and with one
+/// proposal alone it is round 1.
+#[test]
+fn the_settling_round_is_the_lowest_and_every_later_round_qualifies() {
+    let mut simulator = Simulator::new();
+    let mut tried = [0; 4];
+    for (_, ticket) in random_tickets(10) {
+        let settled = simulator.settling_round(&ticket.text()).expect("an accepted ticket");
+        let by_round = values_by_round(&ticket);
+        let [_, decisions] = by_round.last().expect("a round").clone();
+        for (round, [undecided, decided]) in (1..).zip(&by_round) {
+            let held: BTreeSet<u32> = undecided.union(decided).copied().collect();
+            assert_eq!(held.len() <= 1, round >= settled, "round {round} of {ticket}");
+            assert!(round >= settled || decided.is_empty(), "round {round} of {ticket}");
+            assert!(round < settled || held == decisions, "round {round} of {ticket}");
+        }
+        let rounds = by_round.len() as u8;
+        assert!(1 <= settled && settled <= rounds, "{ticket}");
+        let one_proposal = ticket.proposals.iter().all(|&value| value == ticket.proposals[0]);
+        assert!(!one_proposal || settled == 1, "{ticket}");
+        let [_, decided] = &by_round[usize::from(settled) - 1];
+        tried[0] += usize::from(settled < rounds);
+        tried[1] += usize::from(1 < settled && settled < rounds);
+        tried[2] += usize::from(1 < settled && settled == rounds);
+        tried[3] += usize::from(decided.is_empty());
+    }
+    assert!(tried.iter().all(|&count| count > 100), "{tried:?}");
+}
+
+/// What separate parts hold, round by round, settles where the run does.
+#[test]
+fn separate_local_parts_settle_alike() {
+    let mut simulator = Simulator::new();
+    for (_, ticket) in random_tickets(11) {
+        let rounds = simulator.settling_rounds(&ticket.text()).expect("an accepted ticket");
+        let separate = run_separately(&mut simulator, &ticket).expect("no refusal");
+        let rounds_of_run = usize::from(run(&ticket).1.rounds);
+        let by_parts = (1..).zip(&separate.one_value[..rounds_of_run]);
+        let by_parts: Vec<u8> = by_parts.filter(|(_, &one)| one).map(|(round, _)| round).collect();
+        assert_eq!(by_parts, rounds, "{ticket}");
     }
 }

@@ -4,7 +4,9 @@
 //! that but for counts. The results of base.jsonl are those of a program without
 //! Papers 2 and 4: what is written now, with two bytes of each line 11 struck out,
 //! and both without the counts of line 12. The counts of before Paper 4 are compared
-//! by themselves, with what is carried and what is dropped.
+//! by themselves, with what is carried and what is dropped. Of the rounds that
+//! base.jsonl says qualify for settling, the first is the settling round; paper-06.jsonl
+//! says it by itself.
 
 mod json;
 
@@ -12,7 +14,7 @@ use std::fs;
 use std::path::Path;
 
 use json::Object;
-use second::interface::Agreement;
+use second::interface::{Agreement, REFUSED};
 use second::lines::Lines;
 use second::process::{Process, Status};
 use second::recount::{counted, crashed_before, decided_before};
@@ -96,15 +98,44 @@ fn tickets() {
         assert_eq!(without_counts(&printed), without_counts(result), "{about}");
 
         let rounds = simulator.settling_rounds(&ticket);
+        let settled = simulator.settling_round(&ticket);
         if vector.has("settling_rounds_that_qualify") {
             let rounds: Vec<u64> = rounds.expect(&about).into_iter().map(u64::from).collect();
             assert_eq!(rounds, vector.list("settling_rounds_that_qualify"), "{about}");
+            assert_eq!(u64::from(settled.expect(&about)), rounds[0], "{about}");
         } else {
-            let refusal = rounds.expect_err(&about);
-            assert_eq!(format!("{refusal}\n"), vector.text("result"), "{about}");
+            for refusal in [rounds.expect_err(&about), settled.expect_err(&about)] {
+                assert_eq!(format!("{refusal}\n"), vector.text("result"), "{about}");
+            }
         }
     }
     assert!(vectors.len() >= 600);
+}
+
+#[test]
+fn settling_rounds_of_paper_6() {
+    let mut simulator = Simulator::new();
+    let vectors = vectors("paper-06.jsonl");
+    let (mut before_the_last, mut accepted) = (0, 0);
+    for (line, vector) in (1..).zip(&vectors) {
+        let about = format!("line {line}: {}", vector.text("about"));
+        let text = vector.written("ticket").expect(&about);
+        let settled = simulator.settle(&text);
+        if vector.has("refusal") {
+            let refusal = vector.object("refusal");
+            let [number, line] = ["number", "line"].map(|name| refusal.number(name));
+            assert_eq!(settled, number * REFUSED + line, "{about}");
+            continue;
+        }
+        let [round, rounds] = ["settling_round", "run_rounds"].map(|name| vector.number(name));
+        let ticket = Ticket::parse(&text).expect(&about);
+        assert_eq!(settled, round, "{about}");
+        assert_eq!(u64::from(Simulation::new(&ticket).run(|_, _| {}).rounds), rounds, "{about}");
+        accepted += 1;
+        before_the_last += usize::from(round < rounds);
+    }
+    let figures = [vectors.len(), accepted, before_the_last];
+    assert!(vectors.len() >= 290 && accepted >= 185 && before_the_last >= 67, "{figures:?}");
 }
 
 fn sum_of(a: [u16; 2], b: [u16; 2]) -> [u16; 2] {
@@ -161,8 +192,8 @@ fn tickets_of_paper_1() {
             let printed = simulator.print(text, room(vector));
             assert_eq!(printed, written_now(vector, text), "{about}");
         }
-        let rounds = [&ticket, &other].map(|text| simulator.settling_rounds(text));
-        assert_eq!(rounds[0], rounds[1], "{about}");
+        let settled = [&ticket, &other].map(|text| simulator.settle(text));
+        assert_eq!(settled[0], settled[1], "{about}");
     }
     assert!(vectors.len() >= 300 && in_other_letters >= 140);
 }
@@ -221,8 +252,8 @@ fn entries_of_paper_3() {
         assert_eq!(ticket, with_the_byte, "{about}");
         let printed = simulator.print(&ticket, room(vector));
         assert_eq!(printed, written_now(vector, &ticket), "{about}");
-        match simulator.settling_rounds(&ticket) {
-            Ok(rounds) => assert_eq!((rounds, value.is_some()), (vec![1], true), "{about}"),
+        match simulator.settling_round(&ticket) {
+            Ok(round) => assert_eq!((round, value.is_some()), (1, true), "{about}"),
             Err(refusal) => assert_eq!(format!("{refusal}\n"), vector.text("result"), "{about}"),
         }
     }

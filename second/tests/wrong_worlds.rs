@@ -109,39 +109,48 @@ fn rule_before_paper_4() -> Rules {
 }
 
 /// Of a worked run: the rounds, f, the speakers, data and commits; the last
-/// round to decide in, the most messages and the most commits; the rounds that
-/// qualify for settling; data and commits of the processes that come first, the
-/// others' being 0.
-type Figures = (&'static str, [u64; 5], (u8, u64, u64), &'static [u8], &'static [Messages]);
+/// round to decide in, the most messages and the most commits; the settling round,
+/// and all rounds that qualify; data and commits of the processes that come first,
+/// the others' being 0.
+type Figures = (&'static str, [u64; 5], (u8, u64, u64), Settling, &'static [Messages]);
+type Settling = (u8, &'static [u8]);
 
-const FIGURES: [Figures; 15] = [
-    ("case 1", [2, 1, 2, 4, 2], (2, 9, 2), &[1, 2], &[(3, 1), (1, 1)]),
-    ("case 2", [1, 0, 1, 0, 0], (1, 0, 0), &[1], &[]),
-    ("case 3", [1, 1, 1, 3, 3], (2, 6, 3), &[1], &[(3, 3)]),
-    ("case 4", [2, 1, 2, 3, 2], (2, 9, 2), &[2], &[(1, 0), (2, 2)]),
-    ("case 5", [2, 1, 2, 3, 2], (2, 9, 2), &[2], &[(1, 0), (2, 2)]),
-    ("case 6", [3, 2, 2, 1, 1], (3, 9, 2), &[3], &[(0, 0), (0, 0), (1, 1)]),
-    ("case 7", [2, 1, 2, 4, 2], (2, 9, 2), &[1, 2], &[(3, 1), (1, 1)]),
-    ("case 8", [1, 0, 1, 3, 3], (1, 6, 3), &[1], &[(3, 3)]),
+const FIGURES: [Figures; 17] = [
+    ("case 1", [2, 1, 2, 4, 2], (2, 9, 2), (1, &[1, 2]), &[(3, 1), (1, 1)]),
+    ("case 2", [1, 0, 1, 0, 0], (1, 0, 0), (1, &[1]), &[]),
+    ("case 3", [1, 1, 1, 3, 3], (2, 6, 3), (1, &[1]), &[(3, 3)]),
+    ("case 4", [2, 1, 2, 3, 2], (2, 9, 2), (2, &[2]), &[(1, 0), (2, 2)]),
+    ("case 5", [2, 1, 2, 3, 2], (2, 9, 2), (2, &[2]), &[(1, 0), (2, 2)]),
+    ("case 6", [3, 2, 2, 1, 1], (3, 9, 2), (3, &[3]), &[(0, 0), (0, 0), (1, 1)]),
+    ("case 7", [2, 1, 2, 4, 2], (2, 9, 2), (1, &[1, 2]), &[(3, 1), (1, 1)]),
+    ("case 8", [1, 0, 1, 3, 3], (1, 6, 3), (1, &[1]), &[(3, 3)]),
     (
         "case 9",
         [7, 9, 7, 24, 3],
         (10, 63, 3),
-        &[1, 2, 3, 4, 5, 6, 7],
+        (1, &[1, 2, 3, 4, 5, 6, 7]),
         &[(9, 3), (5, 0), (4, 0), (3, 0), (2, 0), (1, 0)],
     ),
-    ("one crashes later", [3, 2, 3, 0, 0], (3, 3, 0), &[2, 3], &[]),
-    ("silent at last", [2, 3, 1, 3, 1], (4, 6, 3), &[1, 2], &[(3, 1)]),
-    ("no commit", [2, 1, 2, 5, 2], (2, 9, 2), &[1, 2], &[(3, 0), (2, 2)]),
-    ("two reached", [2, 1, 2, 4, 2], (2, 9, 2), &[2], &[(2, 0), (2, 2)]),
-    ("set partly counted", [3, 4, 3, 7, 1], (5, 21, 3), &[1, 2, 3], &[(5, 1), (2, 0)]),
-    ("commits partly counted", [3, 3, 3, 9, 3], (4, 21, 3), &[1, 2, 3], &[(5, 1), (3, 1), (1, 1)]),
+    ("one crashes later", [3, 2, 3, 0, 0], (3, 3, 0), (2, &[2, 3]), &[]),
+    ("silent at last", [2, 3, 1, 3, 1], (4, 6, 3), (1, &[1, 2]), &[(3, 1)]),
+    ("no commit", [2, 1, 2, 5, 2], (2, 9, 2), (1, &[1, 2]), &[(3, 0), (2, 2)]),
+    ("two reached", [2, 1, 2, 4, 2], (2, 9, 2), (2, &[2]), &[(2, 0), (2, 2)]),
+    ("set partly counted", [3, 4, 3, 7, 1], (5, 21, 3), (1, &[1, 2, 3]), &[(5, 1), (2, 0)]),
+    (
+        "commits partly counted",
+        [3, 3, 3, 9, 3],
+        (4, 21, 3),
+        (1, &[1, 2, 3]),
+        &[(5, 1), (3, 1), (1, 1)],
+    ),
+    ("equal proposals", [2, 1, 2, 1, 1], (2, 5, 1), (1, &[1, 2]), &[(0, 0), (1, 1)]),
+    ("value zero", [2, 1, 2, 1, 1], (2, 5, 1), (2, &[2]), &[(0, 0), (1, 1)]),
 ];
 
 #[test]
 fn the_figures_of_the_worked_runs() {
     assert_eq!(FIGURES.map(|(name, ..)| name), worked::runs().map(|(name, _)| name));
-    for (name, counted, limits, settling_rounds, shown) in FIGURES {
+    for (name, counted, limits, (settling_round, settling_rounds), shown) in FIGURES {
         let said = said_under(&RIGHT, name);
         let (first, others) = said.shown.split_at(shown.len());
         assert_eq!(first, shown, "{name}");
@@ -150,6 +159,7 @@ fn the_figures_of_the_worked_runs() {
         assert_eq!([rounds.into(), said.f.into(), speakers, data, commits], counted, "{name}");
         assert_eq!(said.limits, limits, "{name}");
         assert_eq!(said.settling_rounds, settling_rounds, "{name}");
+        assert_eq!(said.settling_round, Some(settling_round), "{name}");
     }
 }
 
@@ -328,5 +338,45 @@ fn other_rounds_that_settle() {
     ];
     for (world, run, settling_rounds) in figures {
         assert_eq!(said(world, run).settling_rounds, settling_rounds, "{world}");
+    }
+}
+
+/// 02, Paper 6: case 1 gives 1, cases 4 and 5 give 2, and the run in which one crashes
+/// later 2. If silent rounds do not settle, that run has none, and t + 2 is named.
+#[test]
+fn other_rounds_that_are_named() {
+    let figures = [
+        ("coordinator/last-that-qualifies-named", "case 1", Some(2)),
+        ("coordinator/named-one-round-late", "case 1", Some(2)),
+        ("coordinator/round-1-never-named", "case 2", Some(3)),
+        ("coordinator/silent-rounds-do-not-settle", "case 2", Some(2)),
+        ("coordinator/silent-rounds-do-not-settle", "one crashes later", Some(4)),
+        ("coordinator/silent-rounds-do-not-settle", "equal proposals", Some(2)),
+        ("the first round that begins with one value is named", "case 1", Some(2)),
+        (
+            "the first round is named at whose end the crashed hold that value too",
+            "one crashes later",
+            None,
+        ),
+        ("the first round is named at whose end the decided hold one value", "case 5", Some(1)),
+        (
+            "the first round is named at whose end those hold one value that never crash",
+            "one crashes later",
+            Some(1),
+        ),
+        (
+            "round 0 is named, though it does not qualify, if all propose one value",
+            "case 2",
+            Some(0),
+        ),
+        ("coordinator/first-decision-named", "no commit", Some(2)),
+    ];
+    for (world, run, named) in figures {
+        assert_eq!(said(world, run).settling_round, named, "{world}");
+        assert_eq!(said(world, run).settling_rounds, said_under(&RIGHT, run).settling_rounds);
+    }
+    for (world, named) in [("coordinator/round-0-settles", 1), ("coordinator/round-0-named", 0)] {
+        let said = said(world, "case 2");
+        assert_eq!((said.settling_round, said.settling_rounds), (Some(named), vec![0, 1]));
     }
 }

@@ -5,7 +5,8 @@ ghost use Rattle.part_format.specs.Start.{startRefusal, startBytes};
 ghost use Rattle.part_format.specs.Speak.{speakAnswer, speakOutput};
 ghost use Rattle.part_format.specs.Close.{closeRefusal, closeState};
 ghost use Prim.Native.Nat.{_+_, _*_};
-ghost use Rattle.formats.specs.Code.{placedCode, RunCall, SettlesAs};
+ghost use Rattle.formats.specs.Settle.{settling};
+ghost use Rattle.formats.specs.Code.{placedCode, RunCall, settleCode};
 use running::RunAnswer;
 use running::SettleAnswer;
 
@@ -34,10 +35,10 @@ pub extern "C" fn uc_run(ticket: &[u8], output: &mut [u8]) -> u64
     }
 }
 
-// Names a settling round of a ticket, or 65536 times the refusal plus its line.
+// Names the settling round of a ticket, the lowest that qualifies; or 65536 times the refusal plus its line.
 #[no_mangle]
 pub extern "C" fn uc_settle(ticket: &[u8]) -> u64
-    ensures { λ r. ⌜ SettlesAs (now (ticket .entry)) r ⌝ }
+    ensures { λ r. ⌜ r ≡ settleCode (settling (now (ticket .entry))) ⌝ }
 {
     let answer = running::settle(ticket);
     match answer {

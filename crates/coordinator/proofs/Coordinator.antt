@@ -1,6 +1,6 @@
 -- Who decides does so on the coordinator's estimate, and the commit reaches whoever stands above it too. So if a process above k is up and undecided
 -- after round k, coordinator k has crashed. Assumes nothing.
-use mathlib.Core.Path.{_≡_, refl, subst, ap}
+use mathlib.Core.Path.{_≡_, refl, sym, subst, ap, _∙_}
 use mathlib.Core.Bool.{false}
 use Prim.Native.Nat.{ℕ, zero, suc, _≤_, _<_}
 use native.Mathlib.Omega.{arith}
@@ -72,20 +72,22 @@ module _ (x : Instance) where
       decides-case _ _ _ p _ _ i u v _ _ _ (hears-at x r p) (becomes-at x r p)
       (λ h. ap (stateAt x r) h) (λ h. ap (faultOf x) h) d e
 
-  -- A process that has decided in round i was up and undecided when that round began.
-  pub decided-since : (r p i v : ℕ) → stateAt x r p ≡ decided i v → (q : ℕ) × (u : ℕ) × (i ≡ suc q) × (suc q ≤ r) × (stateAt x q p ≡ undecided u)
+  -- A process that has decided in round i was up and undecided when that round began, and has been decided since it ended.
+  abbrev DecidedSince : (r p i v : ℕ) → Type 0
+  DecidedSince r p i v = (q : ℕ) × (u : ℕ) × (i ≡ suc q) × (suc q ≤ r) × (stateAt x q p ≡ undecided u) × (stateAt x (suc q) p ≡ decided i v)
+
+  pub decided-since : (r p i v : ℕ) → stateAt x r p ≡ decided i v → DecidedSince r p i v
   unfolding stateAt
   decided-since zero p i v e = absurd (undecided-decided _ _ i v refl e)
   decided-since (suc r) p i v e = by-state (decided-since r p) (stateAt x r p) refl
     where
-      by-state : ((i v : ℕ) → stateAt x r p ≡ decided i v → (q : ℕ) × (u : ℕ) × (i ≡ suc q) × (suc q ≤ r) × (stateAt x q p ≡ undecided u))
-          → (s : State) → stateAt x r p ≡ s → (q : ℕ) × (u : ℕ) × (i ≡ suc q) × (suc q ≤ suc r) × (stateAt x q p ≡ undecided u)
-      by-state before (undecided u) b = (r, u, decides-on r p i u v b e .in-round, omega arith, b)
+      by-state : ((i v : ℕ) → stateAt x r p ≡ decided i v → DecidedSince r p i v) → (s : State) → stateAt x r p ≡ s → DecidedSince (suc r) p i v
+      by-state before (undecided u) b = (r, u, decides-on r p i u v b e .in-round, omega arith, b, e)
       by-state before (decided j w) b =
-          let (q, u, same, within, f) = before j w b in
+          let (q, u, same, within, waiting, since) = before j w b in
           let stays : stateAt x (suc r) p ≡ decided j w = decided-later x r (suc r) p j w (omega arith) b in
           let round : i ≡ j = cc in
-          (q, u, omega arith, omega arith, f)
+          (q, u, omega arith, omega arith, waiting, since ∙ sym stays ∙ e)
       by-state before (crashed j) b = absurd (decided-crashed _ i v j e (crashed-later x r (suc r) p j (omega arith) b))
 
   -- A process that a commit reaches is not undecided any more.

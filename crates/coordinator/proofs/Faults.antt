@@ -60,7 +60,7 @@ module _ (x : Instance) where
   -- Who decides does so before the round of its fault.
   pub decided-before-fault : (r p i v round : ℕ) (point : CrashPoint) → faultOf x p ≡ crashes round point → 1 ≤ round → stateAt x r p ≡ decided i v → i < round
   decided-before-fault r p i v round point f one e =
-      let (q, u, same, within, began) = decided-since x r p i v e in
+      let (q, u, same, within, began, since) = decided-since x r p i v e in
       let ahead : q < round = undecided-before-fault q p u round point f one began in
       lt-of-not-le (λ (over : round ≤ i).
       let now : round ≡ suc q = omega arith in

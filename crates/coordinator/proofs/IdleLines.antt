@@ -6,13 +6,14 @@ use mathlib.Core.Bool.{Bool, true, false, cond}
 use Prim.Native.Nat.{ℕ, zero, suc, _+_, _≤_, _<_}
 use native.Mathlib.Omega.{arith}
 use native.Mathlib.Nat.{le-trans}
-use native.Mathlib.Decide.{le-ind}
 use lib.Dec.{ltb}
 use lib.ListN.{length}
 use borrow.Author.Tests.{ltb-true, ne-eqb}
 use Rattle.general.specs.Indexed.{mapFrom}
 use Rattle.general.specs.Counts.{addAt}
 use Rattle.general.proofs.Indexed.{length-mapFrom, mapFrom-at}
+use Rattle.general.proofs.Tests.{by-order}
+use Rattle.general.proofs.Search.{found-same}
 use Rattle.consensus.specs.Instance.{Instance, Fault, correct, crashes, faultOf}
 use Rattle.consensus.specs.State.{State, undecided, decided, crashed, crashesIn}
 use Rattle.consensus.specs.CrashCount.{isIdle, crashedCount}
@@ -22,10 +23,11 @@ use Rattle.coordinator.specs.Run.{Run, initial, withRound, runTo, runOf,
 use Rattle.coordinator.specs.Count.{dataIn, commitsIn}
 use Rattle.coordinator.specs.WellFormed.{FaultAllowed, WellFormed}
 use Rattle.coordinator.specs.MessagesBySender.{sentAfter, dataBy, commitsBy}
+use Rattle.coordinator.specs.Settling.{qualifies, firstSettling}
 use Rattle.coordinator.specs.IdleLines.{faultLeft, withoutIdle, IdleLinesChangeNothing}
 use Rattle.coordinator.proofs.Pointwise.{stateAt, length-states, state-at}
-use Rattle.coordinator.proofs.History.{undecided-decided, decided-crashed, decided-later, crashed-later}
-use Rattle.coordinator.proofs.Coordinator.{decides-on}
+use Rattle.coordinator.proofs.History.{undecided-decided, decided-later}
+use Rattle.coordinator.proofs.Coordinator.{decided-since}
 use Rattle.coordinator.proofs.Undecided.{value-of-undecided}
 use Rattle.coordinator.proofs.Ends.{end-at}
 use Rattle.coordinator.proofs.CrashCount.{crashes-are-crashed}
@@ -33,20 +35,10 @@ use Rattle.coordinator.proofs.FaultsAlike.{AlikeIn, same, ofOthers, rou
 
 module _ (x : Instance) where
   -- A process that is undecided after round r decides in a later one, if at all.
-  decides-after : (r m p w : ℕ) → r ≤ m → stateAt x r p ≡ undecided w → (i v : ℕ) → stateAt x m p ≡ decided i v → r < i
-  decides-after r m p w h e =
-      le-ind (λ (k : ℕ). (i v : ℕ) → stateAt x k p ≡ decided i v → r < i) (λ i v d. absurd (undecided-decided _ w i v e d)) step m h
-    where
-      step : (k : ℕ) → r ≤ k → ((i v : ℕ) → stateAt x k p ≡ decided i v → r < i) → (i v : ℕ) → stateAt x (suc k) p ≡ decided i v → r < i
-      step k within before i v d = by-state (stateAt x k p) refl
-        where
-          by-state : (s : State) → stateAt x k p ≡ s → r < i
-          by-state (undecided u) b = let now = decides-on x k p i u v b d .in-round in omega arith
-          by-state (decided j u) b =
-              let stays : stateAt x (suc k) p ≡ decided j u = decided-later x k (suc k) p j u (omega arith) b in
-              let round : i ≡ j = cc in
-              omega (arith, before j u b)
-          by-state (crashed j) b = absurd (decided-crashed _ i v j d (crashed-later x k (suc k) p j (omega arith) b))
+  decides-after : (r m p w : ℕ) → stateAt x r p ≡ undecided w → (i v : ℕ) → stateAt x m p ≡ decided i v → r < i
+  decides-after r m p w e i v d =
+      let (q, u, round, within, waiting, since) = decided-since x m p i v d in
+      by-order i r (λ early. absurd (undecided-decided _ w i v e (decided-later x (suc q) r p i v (omega arith) since))) (λ late. late)
 
 module _ (x : Instance) (formed : WellFormed x) where
   -- Of a process that is undecided after round r the failure line is left, or is idle and so of a round after r + 1.
@@ -62,7 +54,7 @@ module _ (x : Instance) (formed : WellFormed x) where
 
       by-end : (s : State) → endOf x p ≡ s → AlikeIn (suc r) (cond (isIdle round s) correct (crashes round point)) (crashes round point)
       by-end (undecided v) d = same refl
-      by-end (decided i v) d = by-test i (ltb i round) refl (decides-after x r (lastRound x) p w h e i v (sym (end-at x formed p process) ∙ d))
+      by-end (decided i v) d = by-test i (ltb i round) refl (decides-after x r (lastRound x) p w e i v (sym (end-at x formed p process) ∙ d))
       by-end (crashed i) d = same refl
 
 -- No more faults are left than there were.
@@ -145,6 +137,13 @@ module _ (x : Instance) (formed : WellFormed x) where
       crashes-are-crashed (withoutIdle x) left-formed
       ∙ ap (λ (run : Run). crashedCount (run .states)) (runs-same (lastRound x) (omega arith)) ∙ sym (crashes-are-crashed x formed)
 
+  -- The same rounds qualify in both, so that the same is the first.
+  settling-same : firstSettling (withoutIdle x) ≡ firstSettling x
+  unfolding firstSettling qualifies runOf withoutIdle
+  settling-same =
+      found-same (qualifies (withoutIdle x)) (qualifies x) (lastRound x) 1
+      (λ q h. rw (runs-same q (omega arith), runs-same (lastRound x) (omega arith)) refl)
+
 pub idle-lines-change-nothing : (x : Instance) → WellFormed x → IdleLinesChangeNothing x
 unfolding runOf withRound withoutIdle dataBy commitsBy
 idle-lines-change-nothing x formed =
@@ -155,4 +154,5 @@ idle-lines-change-nothing x formed =
       dataSent = sent-same x formed dataIn (λ run. run .dataSent) (λ y r run. refl) (lastRound x) (omega arith);
       commitsSent = sent-same x formed commitsIn (λ run. run .commitsSent) (λ y r run. refl) (lastRound x) (omega arith);
       crashes = crashes-same x formed;
+      settling = settling-same x formed;
     }

@@ -25,6 +25,7 @@ pub mod Speakers
 pub mod Bound
 pub mod MessagesBySender
 pub mod RunRounds
+pub mod FirstSettling
 pub mod FaultsAlike
 pub mod IdleLines
 pub mod WorkedRuns

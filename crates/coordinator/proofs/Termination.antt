@@ -44,5 +44,5 @@ module _ (x : Instance) (formed : WellFormed x) where
   pub decides-early : DecidesBy (latestOf x) x (endOf x)
   unfolding DecidesBy latestOf
   decides-early p r v d =
-      let (q, u, same, within, waiting) = decided-since x _ p r v (decided-at x formed d) in
+      let (q, u, same, within, waiting, since) = decided-since x _ p r v (decided-at x formed d) in
       omega (arith, waits-for-crashes q p u (omega arith) (d .process) waiting)

@@ -5,6 +5,7 @@ use lib.Count.{onesIn}
 use Rattle.general.specs.Bits.{member, ones64, setOf}
 use Rattle.general.specs.Indexed.{mapFrom, countFrom}
 use Rattle.general.specs.Counts.{addAt}
+use Rattle.general.specs.Search.{lowestFrom}
 use Rattle.coordinator.specs.Message.{arriving, getsData, getsCommit}
 use Rattle.consensus.specs.Instance.{faultOf}
 use Rattle.coordinator.specs.Transition.{sends, receives}
@@ -18,18 +19,18 @@ use Rattle.coordinator.specs.Run.{initial, withRound, runTo, runOf, cras
 use Rattle.coordinator.specs.CountsBySets.{dataSetAt, commitSetAt, sentSet, onesInCommon}
 use Rattle.coordinator.specs.MessagesBySender.{sentAfter, dataBy, commitsBy}
 use Rattle.coordinator.specs.IdleLines.{faultLeft, withoutIdle}
-use Rattle.coordinator.specs.Settling.{valuesHeld, allAre, oneValue, qualifies}
+use Rattle.coordinator.specs.Settling.{valuesHeld, allAre, oneValue, qualifies, firstSettling}
 use Rattle.consensus.specs.FourProcesses.{four, firstCrashes, afterOneCommit, dataToTheLast, idleBesides, idleAlone}
 use Rattle.consensus.specs.ClaimCases.{case1Ends, case8Ends}
 use Rattle.coordinator.specs.WorkedTable.{workedRuns}
 use Rattle.coordinator.specs.WorkedRuns.{setsIn, qualifyingTo, qualifyingRounds, worked, AsWorked, WorkedRuns}
 
 pub worked-runs : WorkedRuns
-unfolding setsIn dataSetAt commitSetAt sentSet onesInCommon onesIn ones64 setOf four firstCrashes afterOneCommit dataToTheLast idleBesides idleAlone case1Ends case8Ends countFrom workedRuns AsWorked worked qualifyingTo qualifyingRounds member mapFrom addAt sentAfter dataBy commitsBy arriving getsData getsCommit faultOf sends receives amongFirst reachAt reachIn reach stateOf crashesIn sentBy received afterOutcome after statesAfter isUndecided anyUndecided speaks carries carriedIn dataIn commitsIn isIdle countsAsCrash crashCount initial withRound runTo runOf crashesOf valuesHeld allAre oneValue qualifies latestOf endOf faultLeft withoutIdle
+unfolding setsIn dataSetAt commitSetAt sentSet onesInCommon onesIn ones64 setOf four firstCrashes afterOneCommit dataToTheLast idleBesides idleAlone case1Ends case8Ends countFrom workedRuns AsWorked worked qualifyingTo qualifyingRounds member mapFrom addAt sentAfter dataBy commitsBy arriving getsData getsCommit faultOf sends receives amongFirst reachAt reachIn reach stateOf crashesIn sentBy received afterOutcome after statesAfter isUndecided anyUndecided speaks carries carriedIn dataIn commitsIn isIdle countsAsCrash crashCount initial withRound runTo runOf crashesOf valuesHeld allAre oneValue qualifies lowestFrom firstSettling latestOf endOf faultLeft withoutIdle
 worked-runs =
     record {
       number = refl;
-      asWorked = (refl, (refl, (refl, (refl, (refl, (refl, (refl, (refl, (refl, (refl, (refl, (refl, (refl, (refl, (refl, tt)))))))))))))));
+      asWorked = (refl, (refl, (refl, (refl, (refl, (refl, (refl, (refl, (refl, (refl, (refl, (refl, (refl, (refl, (refl, (refl, (refl, tt)))))))))))))))));
       idleTakenOut = refl;
       otherLeft = refl;
       dataAtStep1 = refl;

@@ -9,6 +9,7 @@ use Rattle.consensus.specs.State.{State}
 use Rattle.consensus.specs.CrashCount.{isIdle}
 use Rattle.coordinator.specs.Run.{runTo, runOf, lastRound, crashesOf, endOf}
 use Rattle.coordinator.specs.MessagesBySender.{dataBy, commitsBy}
+use Rattle.coordinator.specs.Settling.{firstSettling}
 use Rattle.coordinator.specs.WellFormed.{WellFormed}
 
 -- What is left of a process's fault without its failure line if that is idle, given the process's end ("A failure line whose station decided in an earlier
@@ -31,7 +32,7 @@ withoutIdle x =
 pub record IdleLinesChangeNothing (x : Instance) : Type 0 where
   -- without them it is well-formed again
   pub formed : WellFormed (withoutIdle x)
-  -- the states and the counts are the same after every round, which is what settling looks at too
+  -- the states and the counts are the same after every round
   pub rounds : (r : ℕ) → r ≤ lastRound x → runTo (withoutIdle x) r ≡ runTo x r
   -- so is the whole run: the ends, the rounds, the speakers, the data and the commit messages
   pub run : runOf (withoutIdle x) ≡ runOf x
@@ -40,3 +41,5 @@ pub record IdleLinesChangeNothing (x : Instance) : Type 0 where
   pub commitsSent : commitsBy (withoutIdle x) ≡ commitsBy x
   -- and f
   pub crashes : crashesOf (withoutIdle x) ≡ crashesOf x
+  -- and the settling round (document 02, Paper 6)
+  pub settling : firstSettling (withoutIdle x) ≡ firstSettling x

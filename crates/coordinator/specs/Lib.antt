@@ -6,6 +6,7 @@ pub mod Undecided
 pub mod Count
 pub mod Run
 pub mod Settling
+pub mod FirstSettling
 pub mod WellFormed
 pub mod Pairing
 pub mod SpeakerBound

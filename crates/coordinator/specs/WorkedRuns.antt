@@ -9,7 +9,7 @@ use Rattle.coordinator.specs.Undecided.{undecidedAmong}
 use Rattle.coordinator.specs.Run.{runTo, lastRound, runOf, crashesOf, latestOf}
 use Rattle.coordinator.specs.CountsBySets.{dataSetAt, commitSetAt, sentSet, onesInCommon}
 use Rattle.coordinator.specs.MessagesBySender.{dataBy, commitsBy}
-use Rattle.coordinator.specs.Settling.{qualifies}
+use Rattle.coordinator.specs.Settling.{qualifies, firstSettling}
 use Rattle.coordinator.specs.SpeakerBound.{mostMessages, mostCommits}
 use Rattle.consensus.specs.FourProcesses.{afterOneCommit, idleBesides}
 use Rattle.coordinator.specs.IdleLines.{withoutIdle}
@@ -34,7 +34,8 @@ worked x =
       dataBy = dataBy x;
       commitsBy = commitsBy x;
       limits = latestOf x ∷ mostMessages x ∷ mostCommits x ∷ [];
-      settling = qualifyingRounds x;
+      qualifying = qualifyingRounds x;
+      settling = firstSettling x;
     }
 
 -- Each run of a list is what the definitions give for its instance.
@@ -47,9 +48,9 @@ unfoldable pub setsIn : (at : (n r : ℕ) → CrashPoint → ℕ) → Instance �
 setsIn at x r =
     sentSet at (x .processes) r (faultOf x r) ∷ undecidedAmong (x .processes) (runTo x (r - 1) .states) ∷ onesInCommon at x r (runTo x (r - 1) .states) ∷ []
 
--- The claim: so are the 15 runs of the table.
+-- The claim: so are the 17 runs of the table.
 pub record WorkedRuns : Type 0 where
-  pub number : length workedRuns ≡ 15
+  pub number : length workedRuns ≡ 17
   pub asWorked : AsWorked workedRuns
   -- case 7 without its idle line is case 1, and the line of case 1 is not idle
   pub idleTakenOut : withoutIdle idleBesides ≡ afterOneCommit

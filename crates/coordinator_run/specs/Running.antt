@@ -2,11 +2,14 @@
 use mathlib.Core.List.{List}
 use mathlib.Core.Path.{_≡_}
 use Prim.Native.Nat.{ℕ}
+use mathlib.Core.Bool.{Bool, cond, _&&_}
+use lib.Dec.{leb}
 use lib.ListN.{take, replicate}
 use Rattle.consensus.specs.Instance.{Instance}
 use Rattle.coordinator.specs.Count.{dataIn, commitsIn}
 use Rattle.coordinator.specs.Run.{runTo, lastRound}
 use Rattle.coordinator.specs.MessagesBySender.{sentAfter}
+use Rattle.coordinator.specs.Settling.{firstSettling}
 use Rattle.tables.specs.declared.RunTable.{RunTable}
 use Rattle.tables.specs.RunOfTable.{runFrom}
 use Rattle.coordinator_round.specs.Round.{undecidedSet}
@@ -22,6 +25,14 @@ pub record RunTo (x : Instance) (r n : ℕ) (table : RunTable) (dataCounts commi
   pub dataSent : take n dataCounts ≡ sentAfter dataIn x r
   pub commitsSent : take n commitCounts ≡ sentAfter commitsIn x r
 
--- The same of the whole run, so that they are `runOf`, `dataBy` and `commitsBy`.
-abbrev pub RunOf : Instance → (n : ℕ) → RunTable → (dataCounts commitCounts : List ℕ) → Type 0
-RunOf x n table dataCounts commitCounts = RunTo x (lastRound x) n table dataCounts commitCounts
+-- The round that is run last: `last`; where the run is to stop as soon as it has settled, the settling round, if that is no later (document 02, Paper 6).
+unfoldable pub stopsAt : Instance → (last : ℕ) → (untilSettled : Bool) → ℕ
+stopsAt x last untilSettled = cond (untilSettled && leb (firstSettling x) last) (firstSettling x) last
+
+-- The table and the counts are those after that round.
+abbrev pub RunUntil : Instance → (last : ℕ) → (untilSettled : Bool) → (n : ℕ) → RunTable → (dataCounts commitCounts : List ℕ) → Type 0
+RunUntil x last untilSettled n table dataCounts commitCounts = RunTo x (stopsAt x last untilSettled) n table dataCounts commitCounts
+
+-- The same where up to t + 1 rounds are run: they are `runOf`, `dataBy` and `commitsBy`, or what these are as far as the settling round.
+abbrev pub RunOf : Instance → (untilSettled : Bool) → (n : ℕ) → RunTable → (dataCounts commitCounts : List ℕ) → Type 0
+RunOf x untilSettled n table dataCounts commitCounts = RunUntil x (lastRound x) untilSettled n table dataCounts commitCounts

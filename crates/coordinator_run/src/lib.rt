@@ -1,4 +1,5 @@
-// The rounds of an instance one after the other, until no process is both up and undecided (document 01, 'A round'), and f.
+// The rounds of an instance one after the other, until no process is both up and undecided (document 01, 'A round') or, where that is asked for, until the
+// run has settled (document 02, Paper 6); and f.
 // The instance's arrays are lent; the run is a table by value that goes through each round and comes back. What counts of what each process sends is
 // kept beside it, in two lent arrays (document 02, Papers 2 and 4).
 ghost use mathlib.Core.Path.{_≡_};
@@ -9,7 +10,7 @@ ghost use Rattle.tables.specs.InstanceOfTable.{tableOf, instanceOf};
 ghost use Rattle.coordinator_run.specs.CrashSets.{CrashSets};
 ghost use Rattle.coordinator_run.specs.CrashCountOver.{crashCountOver};
 ghost use Rattle.coordinator_run.specs.InitialTable.{initialTable};
-ghost use Rattle.coordinator_run.specs.Running.{NoneSent, RunTo, RunOf};
+ghost use Rattle.coordinator_run.specs.Running.{NoneSent, RunUntil, RunOf};
 use coordinator_sending::count;
 use tables::RunTable;
 
@@ -50,13 +51,15 @@ fn initial_run(n: u8, values: [u32; 64]) -> RunTable
     }
 }
 
-// The run after rounds 1 to `last`, or after the earlier round by which no process is both up and undecided; its `undecided` is the set by its arrays.
+// The run after rounds 1 to `last`, or after the earlier round by which no process is both up and undecided; its `undecided` is the set by its arrays. With
+// `until_settled` it stops at the end of the settling round, if that comes first.
 // What a round counts is kept for its coordinator in the two arrays that are lent, which hold no count at first.
 pub fn run_to<'a>(
     n: u8,
     t: u8,
     values: [u32; 64],
     last: u8,
+    until_settled: bool,
     crash_rounds: &'a [u8; 64],
     steps: &'a [u8; 64],
     reached: &'a [u64; 64],
@@ -66,9 +69,9 @@ pub fn run_to<'a>(
 ) -> RunTable
     requires { ⌜ WellFormed (instanceOf (tableOf n t values (now «crash_rounds») (now steps) (now reached) (now counts))) × (last ≤ t + 1)
         × NoneSent (now «data_by») (now «commits_by») ⌝ }
-    ensures { λ run. ⌜ RunTo
+    ensures { λ run. ⌜ RunUntil
         (instanceOf (tableOf n t values (now («crash_rounds» .entry)) (now (steps .entry)) (now (reached .entry)) (now (counts .entry)))) last
-        n run (now («data_by» .exit)) (now («commits_by» .exit)) ⌝ }
+        «until_settled» n run (now («data_by» .exit)) (now («commits_by» .exit)) ⌝ }
 {
     let faulty = crash_sets(n, crash_rounds);
     let mut run = initial_run(n, values);
@@ -92,16 +95,22 @@ pub fn run_to<'a>(
         );
         data_by[i] = (run.data_sent - data_before) as u8;
         commits_by[i] = (run.commits_sent - commits_before) as u8;
+        if until_settled {
+            if coordinator_settling::hold_one_value(n, run) {
+                return run;
+            }
+        }
         r += 1;
     }
     run
 }
 
-// The whole run: rounds 1 to t + 1.
+// The whole run: rounds 1 to t + 1. With `until_settled`, the run up to the end of its settling round.
 pub fn run_all<'a>(
     n: u8,
     t: u8,
     values: [u32; 64],
+    until_settled: bool,
     crash_rounds: &'a [u8; 64],
     steps: &'a [u8; 64],
     reached: &'a [u64; 64],
@@ -113,13 +122,14 @@ pub fn run_all<'a>(
         × NoneSent (now «data_by») (now «commits_by») ⌝ }
     ensures { λ run. ⌜ RunOf
         (instanceOf (tableOf n t values (now («crash_rounds» .entry)) (now (steps .entry)) (now (reached .entry)) (now (counts .entry))))
-        n run (now («data_by» .exit)) (now («commits_by» .exit)) ⌝ }
+        «until_settled» n run (now («data_by» .exit)) (now («commits_by» .exit)) ⌝ }
 {
     run_to(
         n,
         t,
         values,
         t + 1,
+        until_settled,
         crash_rounds,
         steps,
         reached,

@@ -20,7 +20,8 @@ use Rattle.formats.proofs.LineReadBack.{line-read-back}
 use Rattle.formats.proofs.RefusalRange.{RefusedBy, lastRefused, ticket-refused}
 use Rattle.demands.specs.OutputSays.{lineAt, refusalFrom, refusalSaid}
 use Rattle.formats.specs.Reading.{Reading, refused}
-use Rattle.formats.specs.Code.{refusalsFrom, SettlesAs}
+use Rattle.formats.specs.Settle.{settling}
+use Rattle.formats.specs.Code.{refusalsFrom, settleCode}
 use Rattle.formats.proofs.Passing.{refused-accepted}
 use Rattle.formats.proofs.FirstWrong.{wrong-refused, refused-wrong}
 use Rattle.formats.proofs.CodesApart.{codes-apart}
@@ -29,16 +30,16 @@ use Rattle.general.proofs.Tests.{by-order}
 use Rattle.demands.specs.Demand1.{SettleAnswered, round, refusal, TicketsAnswered, Demand1}
 use Rattle.demands.proofs.Answered.{run-answered}
 
-settle-answered : (text : List ℕ) (code : ℕ) → SettlesAs text code → SettleAnswered text code
-settle-answered text code s =
+settle-answered : (text : List ℕ) (code : ℕ) → code ≡ settleCode (settling text) → SettleAnswered text code
+settle-answered text code e =
     by-order refusalsFrom code
     (λ (large : refusalsFrom ≤ code).
-    let refused-so = codes-apart .settlingRefused text code s large in
-    let placeless = codes-apart .settlingPlaceless text code s in
+    let refused-so = codes-apart .settledRefused text code e large in
+    let placeless = codes-apart .settledPlaceless text code e in
     refusal _ _ (refused-wrong text _ _ refused-so) (omega arith) large)
     (λ (small : code < refusalsFrom).
-    let told = codes-apart .settlingAccepted text code s small in
-    round (told .instance) (told .read) (told .settles) small)
+    let told = codes-apart .settledAccepted text code e small in
+    round (told .instance) (told .read) (told .round) small)
 
 same-refusal : (number line number′ line′ : ℕ) → _≡_ {A = Reading Instance} (refused number line) (refused number′ line′) → (number ≡ number′) × (line ≡ line′)
 same-refusal number line number′ line′ e =

@@ -11,27 +11,35 @@ use Rattle.formats.specs.Reading.{Reading, accepted, refused}
 use Rattle.formats.specs.Ticket.{readTicket}
 use Rattle.formats.specs.ResultLine.{resultText, resultSize}
 use Rattle.formats.specs.Running.{running, bufferAfter, written, programWrites}
-use Rattle.formats.specs.Settle.{Settles}
-use Rattle.formats.specs.Code.{refusalCode, runCode, settleCode, SettlesAs}
+use Rattle.formats.specs.Settle.{settling}
+use Rattle.formats.specs.Code.{runCode, settleCode}
 use Rattle.formats.proofs.Capitals.{read-capitals, read-alike}
 use Rattle.formats.proofs.InCapitals.{refusal-in-capitals}
 use Rattle.formats.proofs.WellFormed.{accepted-well-formed}
 use Rattle.formats.proofs.ResultLength.{length-text}
 use Rattle.formats.proofs.RefusalRange.{RefusedBy, lastRefused, ticket-refused}
-use Rattle.formats.proofs.CodesApart.{codes-apart}
 use Rattle.running.specs.Answer.{answerOf}
+use Rattle.running.specs.Settling.{settlingOf}
+use Rattle.running.specs.declared.SettleAnswer.{SettleAnswer}
+use Rattle.running.specs.declared.SettleAnswer.the-variants.{Round, Refused}
 use Rattle.demands.specs.Written.{Wrote}
 use Rattle.demands.specs.Witnesses.{RunMet}
 use Rattle.demands.specs.LettersClaim.{RunAlike, SettledAlike, LettersClaim}
 use Rattle.demands.proofs.Answered.{RunCase, fits, short, unread, run-case}
 use Rattle.demands.proofs.ResultInCapitals.{text-in-capitals}
 
--- A refused text has one answer of settling.
-refusal-told : (text : List ℕ) (code : ℕ) → SettlesAs text code → (number line : ℕ) → readTicket text ≡ refused number line → code ≡ refusalCode number line
-unfolding Settles settleCode
-refusal-told text code s number line read =
-    let answered : s .answer ≡ refused number line = rw read at (s .settles) in
-    s .coded ∙ ap settleCode answered
+-- Answers of settling that say the same are the same.
+pub same-answer : (answer answer′ : SettleAnswer) → settlingOf answer ≡ settlingOf answer′ → answer ≡ answer′
+unfolding settlingOf
+same-answer (Round r) (Round s) e =
+    let same : r ≡ s = cc in
+    rw same refl
+same-answer (Round r) (Refused number line) e = cc
+same-answer (Refused number line) (Round s) e = cc
+same-answer (Refused number line) (Refused number′ line′) e =
+    let same : number ≡ number′ = cc in
+    let place : line ≡ line′ = cc in
+    rw (same, place) refl
 
 -- The number of a ticket's refusal is a byte.
 refusal-byte : (text : List ℕ) (number line : ℕ) → readTicket text ≡ refused number line → number < 256
@@ -78,14 +86,15 @@ module _ (a b : List ℕ) (same : EqualUpToCase a b) where
         };
       }
 
+  settling-alike : settling a ≡ settling b
+  unfolding settling
+  settling-alike = rw alike refl
+
   settled-alike : SettledAlike a b
   settled-alike =
       record {
-        settled = λ answer right. rw alike at right;
-        called = λ code s. record { answer = s .answer; settles = rw alike at (s .settles); coded = s .coded };
-        refused = λ code code′ s s′ large.
-            let read = codes-apart .settlingRefused a code s large in
-            refusal-told a code s _ _ read ∙ sym (refusal-told b code′ s′ _ _ (sym alike ∙ read));
+        settled = λ answer answer′ e g. same-answer answer answer′ (e ∙ settling-alike ∙ sym g);
+        called = λ code code′ e g. e ∙ ap settleCode settling-alike ∙ sym g;
       }
 
 result-in-capitals : (text : List ℕ) (x : Instance) (out : List ℕ) → Wrote text x out → InCapitals (take (resultSize (x .processes)) out)

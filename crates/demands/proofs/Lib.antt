@@ -13,6 +13,7 @@ pub mod BoundClaim
 pub mod SenderClaim
 pub mod RoomClaim
 pub mod IdleClaim
+pub mod SettlingClaim
 pub mod ResultInCapitals
 pub mod LettersClaim
 pub mod Witnesses

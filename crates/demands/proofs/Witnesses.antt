@@ -9,8 +9,9 @@ use Rattle.general.specs.Bits.{member}
 use Rattle.general.specs.BigEndian.{number, numberFrom, bytesOf}
 use Rattle.general.specs.Indexed.{mapFrom, countFrom}
 use Rattle.general.specs.Counts.{countOf, addAt}
+use Rattle.general.specs.Search.{lowestFrom}
 use Rattle.general.specs.Text.{ascii}
-use Rattle.consensus.specs.Instance.{Instance, Fault, correct, crashes, duringCommits, pointFrom, faultOf, withinLimits}
+use Rattle.consensus.specs.Instance.{Instance, Fault, correct, crashes, beforeSending, duringCommits, pointFrom, faultOf, withinLimits}
 use Rattle.consensus.specs.Consensus.{Decides}
 use Rattle.consensus.specs.FourProcesses.{four}
 use Rattle.coordinator.specs.Pairing.{LinePaired, same, moreCommits, missing, Paired}
@@ -23,6 +24,7 @@ use Rattle.coordinator.specs.Undecided.{isUndecided, anyUndecided}
 use Rattle.coordinator.specs.Count.{speaks, carries, carriedIn, dataIn, commitsIn}
 use Rattle.consensus.specs.CrashCount.{isIdle, countsAsCrash, crashCount}
 use Rattle.coordinator.specs.Run.{initial, withRound, runTo, runOf, crashesOf, endOf}
+use Rattle.coordinator.specs.Settling.{valuesHeld, allAre, oneValue, qualifies, firstSettling}
 use Rattle.coordinator.specs.MessagesBySender.{sentAfter, dataBy, commitsBy}
 use Rattle.formats.specs.Digit.{digitValue, isDigit}
 use Rattle.formats.specs.Line.{scan, closed, unclosed, linesFrom, linesOf}
@@ -34,14 +36,16 @@ use Rattle.formats.specs.Ticket.{atEnd, readTicket}
 use Rattle.formats.specs.HexText.{digitOf, hexDigits, hexLine}
 use Rattle.formats.specs.ResultLine.{endBytes, processLine, lastLine, joined, lineBy, processLines, resultLines, resultText, resultSize}
 use Rattle.formats.specs.Running.{resultIn, running, bufferAfter}
-use Rattle.formats.specs.Code.{refusalCode, runCode, RunCall}
+use Rattle.formats.specs.Settle.{settlingIn, settling}
+use Rattle.formats.specs.Code.{refusalCode, runCode, RunCall, settleCode}
 use Rattle.formats.specs.Table.{textOf, opening, case1}
 use Rattle.formats.proofs.LetteringCases.{lettering-cases}
 use Rattle.running.specs.Answer.{answerOf}
+use Rattle.running.specs.Settling.{settlingOf}
 use Rattle.demands.specs.OutputSays.{isProcessLine, sentIn, sentFrom, lineAt, sentSaid, countsOf}
 use Rattle.demands.specs.Written.{Wrote}
 use Rattle.demands.specs.PairedTexts.{CommitLine, PairedTexts, noLines, sameLine, countNoLower, missingLine}
-use Rattle.demands.specs.Witnesses.{crashText, mixedText, moreCommitsText, noCrashText, PairMet, RunMet, SentMet, sentAs, Witnesses}
+use Rattle.demands.specs.Witnesses.{crashText, mixedText, moreCommitsText, noCrashText, laterText, PairMet, RunMet, SentMet, SettledMet, sentAs, Witnesses}
 use Rattle.demands.proofs.Demand2.{demand-2}
 use Rattle.demands.proofs.LettersClaim.{run-met-alike}
 
@@ -154,6 +158,36 @@ sent =
       each = sent-rows;
     }
 
+-- It is settled in round 1 and has two rounds.
+crash-settles : (firstSettling crash ≡ 1) × (runOf crash .rounds ≡ 2)
+unfolding lowestFrom valuesHeld allAre oneValue qualifies firstSettling four endOf member mapFrom faultOf arriving getsData getsCommit sends receives amongFirst reachAt reachIn reach stateOf crashesIn sentBy received afterOutcome after statesAfter isUndecided anyUndecided speaks carries carriedIn dataIn commitsIn initial withRound runTo runOf
+crash-settles = (refl, refl)
+
+-- What is settled is so by both contracts.
+met : (text : List ℕ) (x : Instance) (code rounds p v : ℕ) → readTicket text ≡ accepted x → firstSettling x ≡ code → runOf x .rounds ≡ rounds
+    → Decides x (endOf x) p rounds v → SettledMet text code rounds p v
+unfolding settling settlingIn settlingOf settleCode
+met text x code rounds p v read settles last decides =
+    record { instance = x; read = read; answered = rw (read, settles) refl; called = rw (read, settles) refl; last = last; decides = decides }
+
+settled : SettledMet crashText 1 2 2 10
+settled = met crashText crash 1 2 2 10 (texts-read .0) (crash-settles .0) (crash-settles .1) (second-decides .0)
+
+-- The run `crashesLater`: settled in round 2, before process 3 decides in round 3.
+abbrev later : Instance
+later = record { processes = 3; resilience = 2; proposals = 10 ∷ 20 ∷ 30 ∷ []; pattern = crashes 1 beforeSending ∷ crashes 2 beforeSending ∷ correct ∷ [] }
+
+later-read : readTicket laterText ≡ accepted later
+unfolding four laterText opening textOf ascii number numberFrom pointFrom withinLimits digitValue isDigit scan closed unclosed linesFrom linesOf proceed readFrom isKind headerSays afterProposal proposalSays failureLine placesCrash allBetween suitsStep crashSays failureSays lineSays unproposed withProposal withCrash begin store accept atEnd readTicket
+later-read = refl
+
+later-settles : (firstSettling later ≡ 2) × (runOf later .rounds ≡ 3) × Decides later (endOf later) 3 3 30
+unfolding lowestFrom valuesHeld allAre oneValue qualifies firstSettling endOf member mapFrom faultOf arriving getsData getsCommit sends receives amongFirst reachAt reachIn reach stateOf crashesIn sentBy received afterOutcome after statesAfter isUndecided anyUndecided speaks carries carriedIn dataIn commitsIn initial withRound runTo runOf
+later-settles = (refl, refl, record { process = omega arith; state = refl })
+
+settled-later : SettledMet laterText 2 3 3 30
+settled-later = met laterText later 2 3 3 30 later-read (later-settles .0) (later-settles .1) (later-settles .2)
+
 -- 100 bytes are one too few, and 101 just enough.
 short : RunCall crashText (replicate 100 165) (replicate 100 165) (refusalCode 9 0)
 unfolding answerOf runCode running resultIn bufferAfter resultText resultLines joined lineBy processLines lastLine processLine endBytes resultSize hexLine hexDigits digitOf crashText moreCommitsText noCrashText opening textOf ascii member number numberFrom bytesOf mapFrom countFrom countOf addAt pointFrom faultOf withinLimits arriving getsData getsCommit sends receives amongFirst reachAt reachIn reach stateOf crashesIn sentBy received afterOutcome after statesAfter isUndecided anyUndecided speaks carries carriedIn dataIn commitsIn isIdle countsAsCrash crashCount initial withRound runTo runOf sentAfter dataBy commitsBy crashesOf digitValue isDigit scan closed unclosed linesFrom linesOf proceed readFrom isKind headerSays afterProposal proposalSays failureLine placesCrash allBetween suitsStep crashSays failureSays lineSays unproposed withProposal withCrash begin store accept atEnd readTicket
@@ -165,4 +199,14 @@ fits = record { answered = refl; buffer = refl }
 
 pub witnesses : Witnesses
 witnesses =
-    record { moreCommits = more-commits; lineMissing = line-missing; written = written; writtenMixed = written-mixed; sent = sent; short = short; fits = fits }
+    record {
+      moreCommits = more-commits;
+      lineMissing = line-missing;
+      written = written;
+      writtenMixed = written-mixed;
+      sent = sent;
+      settled = settled;
+      settledLater = settled-later;
+      short = short;
+      fits = fits;
+    }

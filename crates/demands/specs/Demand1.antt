@@ -2,20 +2,20 @@
 -- A refusal writes nothing to the output buffer. Desk state and frames are checked in the same way, and a refused call changes no state."
 use mathlib.Core.List.{List, _++_}
 use mathlib.Core.Path.{_≡_}
-use mathlib.Core.Bool.{true}
 use mathlib.Core.Option.{some}
 use Prim.Native.Nat.{ℕ, _≤_, _<_}
 use lib.ListN.{length, drop}
 use Rattle.consensus.specs.Instance.{Instance}
-use Rattle.coordinator.specs.Settling.{qualifies}
+use Rattle.coordinator.specs.Settling.{firstSettling}
 use Rattle.formats.specs.Reading.{accepted}
 use Rattle.formats.specs.Ticket.{readTicket}
 use Rattle.formats.specs.FirstWrong.{FirstWrong}
 use Rattle.formats.specs.ResultLine.{resultText, resultSize, refusalLine}
 use Rattle.formats.specs.Running.{programWrites}
+use Rattle.formats.specs.Settle.{settling}
 use Rattle.demands.specs.OutputSays.{refusalSaid}
 use Rattle.part_format.specs.Refused.{RefusedCallsChangeNothing, SpeakAnswersApart}
-use Rattle.formats.specs.Code.{refusalsFrom, refusalCode, RunCall, SettlesAs}
+use Rattle.formats.specs.Code.{refusalsFrom, refusalCode, RunCall, settleCode}
 
 -- Running a text into a buffer of `room` bytes is refused with this number and line: for its first wrong line, or, with 9 and no line, for want of room.
 pub data RunRefused (text : List ℕ) (room : ℕ) : (refusal line : ℕ) → Type 0 where
@@ -30,15 +30,16 @@ pub data RunAnswered (text before after : List ℕ) (code : ℕ) : Type 0 where
   refusal : (number line : ℕ) → RunRefused text (length before) number line → code ≡ refusalCode number line → refusalsFrom ≤ code → after ≡ before
       → RunAnswered text before after code
 
--- What the call of settling answers: a round that qualifies, or the refusal of the text's first wrong line.
+-- What the call of settling answers: the settling round (document 02, Paper 6; what is claimed of it: `SettlingClaim`), or the refusal of the text's first
+-- wrong line.
 pub data SettleAnswered (text : List ℕ) (code : ℕ) : Type 0 where
-  round : (x : Instance) → readTicket text ≡ accepted x → qualifies x code ≡ true → code < refusalsFrom → SettleAnswered text code
+  round : (x : Instance) → readTicket text ≡ accepted x → code ≡ firstSettling x → code < refusalsFrom → SettleAnswered text code
   refusal : (number line : ℕ) → FirstWrong text number line → code ≡ refusalCode number line → refusalsFrom ≤ code → SettleAnswered text code
 
 -- Of tickets: every text and every buffer gets its answer; a text is accepted or has a first wrong line, and only one.
 pub record TicketsAnswered : Type 0 where
   pub run : (text before after : List ℕ) (code : ℕ) → RunCall text before after code → RunAnswered text before after code
-  pub settle : (text : List ℕ) (code : ℕ) → SettlesAs text code → SettleAnswered text code
+  pub settle : (text : List ℕ) (code : ℕ) → code ≡ settleCode (settling text) → SettleAnswered text code
   -- the program writes the refusal's line, which says its number and its line
   pub program : (text : List ℕ) (number line : ℕ) → FirstWrong text number line
       → (programWrites text ≡ refusalLine number line) × (refusalSaid (programWrites text) ≡ some (record { refusal = number; line = line }))

@@ -3,18 +3,19 @@
 -- answer and leave.
 use mathlib.Core.List.{List, map}
 use mathlib.Core.Path.{_≡_}
-use Prim.Native.Nat.{ℕ, _≤_}
+use Prim.Native.Nat.{ℕ}
 use lib.ListN.{take}
 use Rattle.consensus.specs.Instance.{Instance}
 use Rattle.formats.specs.Capitals.{capital, EqualUpToCase, InCapitals}
-use Rattle.formats.specs.Reading.{Reading}
 use Rattle.formats.specs.Ticket.{readTicket}
 use Rattle.formats.specs.ResultLine.{resultSize}
 use Rattle.formats.specs.Running.{programWrites}
-use Rattle.formats.specs.Settle.{Settles}
-use Rattle.formats.specs.Code.{refusalsFrom, RunCall, SettlesAs}
+use Rattle.formats.specs.Settle.{settling}
+use Rattle.formats.specs.Code.{RunCall, settleCode}
 use Rattle.running.specs.Answer.{Ran}
+use Rattle.running.specs.Settling.{settlingOf}
 use Rattle.running.specs.declared.RunAnswer.{RunAnswer}
+use Rattle.running.specs.declared.SettleAnswer.{SettleAnswer}
 use Rattle.demands.specs.Written.{Wrote}
 
 -- Of running: equal buffers get equal answers, a refusal's number and line included, and are left with equal bytes; by the library's own contract, by the C
@@ -24,11 +25,10 @@ pub record RunAlike (a b : List ℕ) : Type 0 where
   pub called : (before out out′ : List ℕ) (code code′ : ℕ) → RunCall a before out code → RunCall b before out′ code′ → (code ≡ code′) × (out ≡ out′)
   pub program : programWrites a ≡ programWrites b
 
--- Of settling: what is right for the one is right for the other, as long as document 01 leaves the round free; a refusal is the same.
+-- Of settling: equal answers, the round or the refusal's number and line; by the library's own contract and by the C call's.
 pub record SettledAlike (a b : List ℕ) : Type 0 where
-  pub settled : (answer : Reading ℕ) → Settles (readTicket a) answer → Settles (readTicket b) answer
-  pub called : (code : ℕ) → SettlesAs a code → SettlesAs b code
-  pub refused : (code code′ : ℕ) → SettlesAs a code → SettlesAs b code′ → refusalsFrom ≤ code → code ≡ code′
+  pub settled : (answer answer′ : SettleAnswer) → settlingOf answer ≡ settling a → settlingOf answer′ ≡ settling b → answer ≡ answer′
+  pub called : (code code′ : ℕ) → code ≡ settleCode (settling a) → code′ ≡ settleCode (settling b) → code ≡ code′
 
 pub record LettersClaim : Type 0 where
   -- every text is read as its capitals are: one instance, or one refusal with its number and its line

@@ -9,5 +9,6 @@ pub mod BoundClaim
 pub mod SenderClaim
 pub mod RoomClaim
 pub mod IdleClaim
+pub mod SettlingClaim
 pub mod LettersClaim
 pub mod Witnesses

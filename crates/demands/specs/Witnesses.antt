@@ -1,6 +1,7 @@
 -- The premises of the claims can be met: case 1 (document 01, 'Worked runs') is run, as it stands, in mixed letters and into a buffer that is too short, and
 -- paired with case 3 and with itself without its failure line; its lines say what counts of each process. (What else is answered on case 1 in mixed letters,
--- and on refused texts in two letterings: formats/specs/LetteringCases.)
+-- and on refused texts in two letterings: formats/specs/LetteringCases.) Settling case 1 names a round below the run's last, and settling the further run
+-- `crashesLater` one that is neither the first nor the last.
 use mathlib.Core.List.{List, [], _∷_, _++_, map}
 use mathlib.Core.Option.{Option, some, none}
 use mathlib.Core.Path.{_≡_}
@@ -8,12 +9,18 @@ use Prim.Native.Nat.{ℕ}
 use lib.ListN.{replicate}
 use Rattle.consensus.specs.Instance.{Instance}
 use Rattle.consensus.specs.Consensus.{Decides}
-use Rattle.coordinator.specs.Run.{endOf}
+use Rattle.coordinator.specs.Run.{runOf, endOf}
+use Rattle.formats.specs.Reading.{accepted}
+use Rattle.formats.specs.Ticket.{readTicket}
+use Rattle.formats.specs.Settle.{settling}
 use Rattle.formats.specs.Table.{textOf, opening, case1, case3}
+use Rattle.formats.specs.FurtherRuns.{crashesLater}
 use Rattle.formats.specs.LetterRuns.{case1Mixed}
-use Rattle.formats.specs.Code.{refusalCode, RunCall}
+use Rattle.formats.specs.Code.{refusalCode, RunCall, settleCode}
 use Rattle.running.specs.Answer.{Ran}
 use Rattle.running.specs.declared.RunAnswer.the-variants.{Written}
+use Rattle.running.specs.Settling.{settlingOf}
+use Rattle.running.specs.declared.SettleAnswer.the-variants.{Round}
 use Rattle.demands.specs.OutputSays.{Sent, Counts, sentSaid, sentOf}
 use Rattle.demands.specs.Written.{Wrote, CallWrote}
 use Rattle.demands.specs.SenderClaim.{MessagesSaid}
@@ -32,6 +39,10 @@ moreCommitsText = textOf (case3 .ticket)
 
 unfoldable pub noCrashText : List ℕ
 noCrashText = textOf (opening ++ ("04" ∷ []))
+
+-- The text of the further run `crashesLater`.
+unfoldable pub laterText : List ℕ
+laterText = textOf (crashesLater .ticket)
 
 -- Two texts are accepted, and paired line by line and in what they describe; process 2 decides in the first in round r and in the second in round s.
 pub record PairMet (a b : List ℕ) (r s : ℕ) : Type 0 where
@@ -56,6 +67,15 @@ pub record SentMet (text out : List ℕ) (rows : List (Option Sent)) (counts : C
   pub said : MessagesSaid instance out (sentOf instance) counts
   pub each : map (sentSaid out) (1 ∷ 2 ∷ 3 ∷ 4 ∷ 5 ∷ []) ≡ rows
 
+-- A text is accepted, settling it answers `code`, its run has `rounds` rounds, and process p decides v in the last of them.
+pub record SettledMet (text : List ℕ) (code rounds p v : ℕ) : Type 0 where
+  pub instance : Instance
+  pub read : readTicket text ≡ accepted instance
+  pub answered : settlingOf (Round code) ≡ settling text
+  pub called : code ≡ settleCode (settling text)
+  pub last : runOf instance .rounds ≡ rounds
+  pub decides : Decides instance (endOf instance) p rounds v
+
 abbrev pub sentAs : (dataSent commitsSent : ℕ) → Option Sent
 sentAs dataSent commitsSent = some (record { dataSent = dataSent; commitsSent = commitsSent })
 
@@ -67,6 +87,8 @@ pub record Witnesses : Type 0 where
   -- the last line is no station line
   pub sent : SentMet crashText (textOf (case1 .output)) (sentAs 3 1 ∷ sentAs 1 1 ∷ sentAs 0 0 ∷ sentAs 0 0 ∷ none ∷ [])
       (record { rounds = 2; crashes = 1; speakers = 2; dataSent = 4; commitsSent = 2 })
+  pub settled : SettledMet crashText 1 2 2 10
+  pub settledLater : SettledMet laterText 2 3 3 30
   -- a buffer of 100 bytes is too short for it, and one of 101 is not
   pub short : RunCall crashText (replicate 100 165) (replicate 100 165) (refusalCode 9 0)
   pub fits : RunCall crashText (replicate 101 165) (textOf (case1 .output)) 101

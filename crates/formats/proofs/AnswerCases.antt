@@ -13,13 +13,14 @@ use Rattle.formats.specs.Ticket.{atEnd, readTicket}
 use Rattle.formats.specs.HexText.{digitOf, hexDigits, hexLine}
 use Rattle.formats.specs.ResultLine.{resultSize, refusalLine}
 use Rattle.formats.specs.Running.{resultIn, running, written, programWrites}
+use Rattle.formats.specs.Settle.{settlingIn, settling}
 use Rattle.formats.specs.Table.{textOf, opening, opening64}
 use Rattle.formats.specs.ReadingCases.{afterOpening}
 use Rattle.formats.specs.AnswerCases.{refusalRows, RefusalCases, ResultSizes}
 
 pub refusal-cases : RefusalCases
-unfolding refusalRows afterOpening opening opening64 textOf ascii programWrites written refusalLine bytesOf digitOf hexDigits hexLine resultSize resultIn running number numberFrom pointFrom withinLimits digitValue isDigit scan closed unclosed linesFrom linesOf proceed readFrom isKind headerSays afterProposal proposalSays failureLine placesCrash allBetween suitsStep crashSays failureSays lineSays unproposed withProposal withCrash begin store accept atEnd readTicket
-refusal-cases = record { rows = refl; written = refl }
+unfolding settling settlingIn refusalRows afterOpening opening opening64 textOf ascii programWrites written refusalLine bytesOf digitOf hexDigits hexLine resultSize resultIn running number numberFrom pointFrom withinLimits digitValue isDigit scan closed unclosed linesFrom linesOf proceed readFrom isKind headerSays afterProposal proposalSays failureLine placesCrash allBetween suitsStep crashSays failureSays lineSays unproposed withProposal withCrash begin store accept atEnd readTicket
+refusal-cases = record { rows = refl; written = refl; settled = refl }
 
 pub result-sizes : ResultSizes
 unfolding resultSize

@@ -1,26 +1,24 @@
 -- A C caller can tell answers apart by their numbers (`codes-apart`). Assumes nothing.
 use mathlib.Core.List.{List}
-use mathlib.Core.Path.{_≡_, refl, sym, subst}
+use mathlib.Core.Path.{_≡_, refl}
 use mathlib.Core.Bool.{Bool, true, false, cond}
 use Prim.Native.Nat.{ℕ, _/_, _%_, _≤_, _<_}
 use native.Mathlib.Omega.{arith}
-use borrow.Author.Tests.{leb-true}
 use lib.Dec.{ltb}
 use lib.ListN.{length}
 use Rattle.consensus.specs.Instance.{Instance}
-use Rattle.coordinator.specs.Run.{runOf}
-use Rattle.coordinator.specs.Settling.{qualifies}
+use Rattle.coordinator.specs.Settling.{firstSettling}
 use Rattle.coordinator.proofs.Counts.{counts-fit}
+use Rattle.coordinator.proofs.FirstSettling.{first-settling}
 use Rattle.formats.specs.Reading.{Reading, accepted, refused}
 use Rattle.formats.specs.Ticket.{readTicket}
-use Rattle.general.proofs.Tests.{both}
 use Rattle.formats.proofs.WellFormed.{accepted-well-formed}
 use Rattle.formats.proofs.RefusalRange.{RefusedBy, lastRefused, ticket-refused}
 use Rattle.formats.specs.ResultLine.{resultText, resultSize}
 use Rattle.formats.proofs.ResultLength.{length-text}
 use Rattle.formats.specs.Running.{resultIn, running}
-use Rattle.formats.specs.Settle.{Settles}
-use Rattle.formats.specs.Code.{refusalsFrom, placesFrom, placedCode, runCode, settleCode, SettlesAs}
+use Rattle.formats.specs.Settle.{settlingIn, settling}
+use Rattle.formats.specs.Code.{refusalsFrom, placesFrom, placedCode, runCode, settleCode}
 use Rattle.formats.specs.CodesApart.{TellsRefusal, TellsSize, TellsRound, TellsRun, TellsSettling, CodesApart}
 
 -- Of every call: refusals have numbers below 65536, and so have lines.
@@ -77,56 +75,43 @@ module _ (text : List ℕ) (room : ℕ) where
   run-placeless (refused number line) code told = omega (arith, told .readsPlace)
 
 -- A settling round is one of the run's, of which there are at most 64.
-round-told : (text : List ℕ) (x : Instance) (r : ℕ) → readTicket text ≡ accepted x → qualifies x r ≡ true → TellsRound text r r
-unfolding qualifies
-round-told text x r e settles =
-    let rounds = both _ _ (both _ _ settles .0) in
-    let within : r ≤ runOf x .rounds = leb-true _ _ (rounds .1) in
-    let fit = counts-fit x (accepted-well-formed text x e) in
-    record {
-      instance = x;
-      read = e;
-      settles = settles;
-      round = refl;
-      least = leb-true _ _ (rounds .0);
-      most = omega (arith, fit .rounds);
-    }
+round-told : (text : List ℕ) (x : Instance) → readTicket text ≡ accepted x → TellsRound text (firstSettling x)
+round-told text x e =
+    let formed = accepted-well-formed text x e in
+    let (some, within) = first-settling x formed .within in
+    record { instance = x; read = e; round = refl; least = some; most = omega (arith, counts-fit x formed .rounds) }
 
 module _ (text : List ℕ) where
-  answer-told : (reading : Reading Instance) (answer : Reading ℕ) → readTicket text ≡ reading → RefusedBy lastRefused reading → Settles reading answer
-      → TellsSettling text answer (settleCode answer)
-  unfolding TellsSettling settleCode Settles RefusedBy
-  answer-told (accepted x) (accepted r) e h s = round-told text x r e s
-  answer-told (accepted x) (refused number line) e h s = absurd s
-  answer-told (refused number line) answer e h s =
-      subst (λ (a : Reading ℕ). TellsSettling text a (settleCode a)) (sym s) (refusal-told 8 0 number line (omega arith) (h .0) (h .1) (omega (arith, h .2)))
+  answer-told : (reading : Reading Instance) → readTicket text ≡ reading → RefusedBy lastRefused reading
+      → TellsSettling text (settlingIn reading) (settleCode (settlingIn reading))
+  unfolding TellsSettling settleCode settlingIn RefusedBy
+  answer-told (accepted x) e h = round-told text x e
+  answer-told (refused number line) e h = refusal-told 8 0 number line (omega arith) (h .0) (h .1) (omega (arith, h .2))
 
-  settling-told : (code : ℕ) (s : SettlesAs text code) → TellsSettling text (s .answer) code
-  settling-told code s = rw (s .coded) (answer-told (readTicket text) (s .answer) refl (ticket-refused text) (s .settles))
+  settling-told : TellsSettling text (settling text) (settleCode (settling text))
+  unfolding settling
+  settling-told = answer-told (readTicket text) refl (ticket-refused text)
 
-  round-read : (answer : Reading ℕ) (code : ℕ) → TellsSettling text answer code → code < refusalsFrom → TellsRound text code code
+  round-read : (answer : Reading ℕ) (code : ℕ) → TellsSettling text answer code → code < refusalsFrom → TellsRound text code
   unfolding TellsSettling
-  round-read (accepted r) code told small = subst (λ (i : ℕ). TellsRound text i code) (sym (told .round)) told
+  round-read (accepted r) code told small = told
   round-read (refused number line) code told small = absurd (omega (arith, told .isRefusal))
+
+  unsettled-read : (reading : Reading Instance) (code : ℕ) → TellsSettling text (settlingIn reading) code → refusalsFrom ≤ code
+      → reading ≡ refused (code / refusalsFrom % refusalsFrom) (code % refusalsFrom)
+  unfolding TellsSettling settlingIn
+  unsettled-read (accepted x) code told large = absurd (omega (arith, told .most))
+  unsettled-read (refused number line) code told large = rw (told .readsNumber, told .readsLine) refl
 
   settling-placeless : (answer : Reading ℕ) (code : ℕ) → TellsSettling text answer code → code < placesFrom
   unfolding TellsSettling
   settling-placeless (accepted r) code told = omega (arith, told .most)
   settling-placeless (refused number line) code told = omega (arith, told .readsPlace)
 
-  same-refusal : (reading : Reading Instance) (number line : ℕ) → Settles reading (refused number line) → reading ≡ refused number line
-  unfolding Settles
-  same-refusal (accepted x) number line s = absurd s
-  same-refusal (refused number′ line′) number line s =
-      let same : number′ ≡ number = cc in
-      let place : line′ ≡ line = cc in
-      rw (same, place) refl
-
-  unsettled-read : (answer : Reading ℕ) (code : ℕ) → Settles (readTicket text) answer → TellsSettling text answer code → refusalsFrom ≤ code
-      → readTicket text ≡ refused (code / refusalsFrom % refusalsFrom) (code % refusalsFrom)
-  unfolding TellsSettling
-  unsettled-read (accepted r) code s told large = absurd (omega (arith, told .most))
-  unsettled-read (refused number line) code s told large = rw (told .readsNumber, told .readsLine) (same-refusal (readTicket text) number line s)
+settled-refused : (text : List ℕ) (code : ℕ) → code ≡ settleCode (settling text) → refusalsFrom ≤ code
+    → readTicket text ≡ refused (code / refusalsFrom % refusalsFrom) (code % refusalsFrom)
+unfolding settling
+settled-refused text code e large = unsettled-read text (readTicket text) code (rw e (settling-told text)) large
 
 pub codes-apart : CodesApart
 codes-apart =
@@ -136,8 +121,8 @@ codes-apart =
       runAccepted = λ text room code e small. size-read text room (running text room) code (rw e (run-told text room)) small;
       runRefused = λ text room code e large. refusal-read text room (running text room) code (rw e (run-told text room)) large;
       runPlaceless = λ text room code e. run-placeless text room (running text room) code (rw e (run-told text room));
-      settling = settling-told;
-      settlingAccepted = λ text code s small. round-read text (s .answer) code (settling-told text code s) small;
-      settlingRefused = λ text code s large. unsettled-read text (s .answer) code (s .settles) (settling-told text code s) large;
-      settlingPlaceless = λ text code s. settling-placeless text (s .answer) code (settling-told text code s);
+      settled = settling-told;
+      settledAccepted = λ text code e small. round-read text (settling text) code (rw e (settling-told text)) small;
+      settledRefused = settled-refused;
+      settledPlaceless = λ text code e. settling-placeless text (settling text) code (rw e (settling-told text));
     }

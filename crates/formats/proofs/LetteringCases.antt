@@ -8,6 +8,7 @@ use Rattle.general.specs.Bits.{member}
 use Rattle.general.specs.BigEndian.{number, numberFrom, bytesOf}
 use Rattle.general.specs.Indexed.{mapFrom, countFrom}
 use Rattle.general.specs.Counts.{countOf, addAt}
+use Rattle.general.specs.Search.{lowestFrom}
 use Rattle.general.specs.Text.{ascii}
 use Rattle.consensus.specs.Instance.{pointFrom, faultOf, withinLimits}
 use Rattle.coordinator.specs.Message.{arriving, getsData, getsCommit}
@@ -24,15 +25,15 @@ use Rattle.formats.specs.FailureLine.{placesCrash, allBetween, suitsStep
 use Rattle.formats.specs.Says.{isKind, headerSays, afterProposal, proposalSays, failureLine, crashSays, failureSays, lineSays}
 use Rattle.formats.specs.Accept.{unproposed, withProposal, withCrash, begin, store, accept}
 use Rattle.formats.specs.HexText.{digitOf, hexDigits, hexLine}
-use Rattle.coordinator.specs.Settling.{valuesHeld, allAre, oneValue, qualifies}
+use Rattle.coordinator.specs.Settling.{valuesHeld, allAre, oneValue, qualifies, firstSettling}
 use Rattle.coordinator.specs.Count.{speaks, carries, carriedIn, dataIn, commitsIn}
 use Rattle.consensus.specs.CrashCount.{isIdle, countsAsCrash, crashCount}
-use Rattle.formats.specs.Reading.{Reading, accepted, refused, proceed, readFrom}
+use Rattle.formats.specs.Reading.{proceed, readFrom}
 use Rattle.formats.specs.Ticket.{atEnd, readTicket}
 use Rattle.formats.specs.ResultLine.{endBytes, processLine, lastLine, joined, lineBy, processLines, resultLines, resultText, resultSize}
 use Rattle.formats.specs.Running.{resultIn, running, bufferAfter}
-use Rattle.formats.specs.Settle.{Settles}
-use Rattle.formats.specs.Code.{refusalCode, runCode, settleCode, SettlesAs}
+use Rattle.formats.specs.Settle.{settlingIn, settling}
+use Rattle.formats.specs.Code.{refusalCode, runCode, settleCode}
 use Rattle.formats.specs.Capitals.{capital, EqualUpToCase, InCapitals}
 use Rattle.formats.specs.LetteringCases.{TwoLetterings, LetteringCases}
 use Rattle.formats.specs.LetterRuns.{case1Mixed}
@@ -49,16 +50,12 @@ small-letter e =
 different : (a b : List ℕ) (i : ℕ) → (getD a i 0 ≡ getD b i 0 → ⊥) → a ≡ b → ⊥
 different a b i other e = other (ap (λ (l : List ℕ). getD l i 0) e)
 
--- Settling answers so if that is right.
-settles-so : (text : List ℕ) (answer : Reading ℕ) → Settles (readTicket text) answer → SettlesAs text (settleCode answer)
-settles-so text answer right = record { answer = answer; settles = right; coded = refl }
-
 -- A buffer of 120 bytes.
 abbrev buffer : List ℕ
 buffer = replicate 120 165
 
 accepted-texts : TwoLetterings (textOf (case1 .ticket)) (textOf (case1Mixed .ticket)) 101 1
-unfolding EqualUpToCase capital Settles settleCode bufferAfter valuesHeld allAre oneValue qualifies runCode textOf ascii member number numberFrom bytesOf mapFrom countFrom countOf addAt pointFrom faultOf withinLimits arriving getsData getsCommit sends receives amongFirst reachAt reachIn reach stateOf crashesIn sentBy received afterOutcome after statesAfter isUndecided anyUndecided speaks carries carriedIn dataIn commitsIn isIdle countsAsCrash crashCount initial withRound runTo runOf sentAfter dataBy commitsBy crashesOf digitValue isDigit scan closed unclosed linesFrom linesOf proceed readFrom isKind headerSays afterProposal proposalSays failureLine placesCrash allBetween suitsStep crashSays failureSays lineSays unproposed withProposal withCrash begin store accept atEnd readTicket digitOf hexDigits hexLine endBytes processLine lastLine joined lineBy processLines resultLines resultText resultSize resultIn running
+unfolding EqualUpToCase capital settling settlingIn lowestFrom firstSettling settleCode bufferAfter valuesHeld allAre oneValue qualifies runCode textOf ascii member number numberFrom bytesOf mapFrom countFrom countOf addAt pointFrom faultOf withinLimits arriving getsData getsCommit sends receives amongFirst reachAt reachIn reach stateOf crashesIn sentBy received afterOutcome after statesAfter isUndecided anyUndecided speaks carries carriedIn dataIn commitsIn isIdle countsAsCrash crashCount initial withRound runTo runOf sentAfter dataBy commitsBy crashesOf digitValue isDigit scan closed unclosed linesFrom linesOf proceed readFrom isKind headerSays afterProposal proposalSays failureLine placesCrash allBetween suitsStep crashSays failureSays lineSays unproposed withProposal withCrash begin store accept atEnd readTicket digitOf hexDigits hexLine endBytes processLine lastLine joined lineBy processLines resultLines resultText resultSize resultIn running
 accepted-texts =
     record {
       differ = different (textOf (case1 .ticket)) (textOf (case1Mixed .ticket)) 18 (λ e. omega arith);
@@ -67,12 +64,12 @@ accepted-texts =
       after = bufferAfter (running (textOf (case1 .ticket)) 120) buffer;
       first = record { answered = refl; buffer = refl };
       second = record { answered = refl; buffer = refl };
-      firstSettles = settles-so (textOf (case1 .ticket)) (accepted 1) refl;
-      secondSettles = settles-so (textOf (case1Mixed .ticket)) (accepted 1) refl;
+      firstSettles = refl;
+      secondSettles = refl;
     }
 
 refused-texts : TwoLetterings (textOf ("01040G" ∷ [])) (textOf ("01040g" ∷ [])) (refusalCode 2 1) (refusalCode 2 1)
-unfolding EqualUpToCase capital Settles settleCode bufferAfter runCode running resultIn textOf ascii digitValue isDigit scan closed unclosed linesFrom linesOf readFrom readTicket
+unfolding EqualUpToCase capital settling settlingIn settleCode bufferAfter runCode running resultIn textOf ascii digitValue isDigit scan closed unclosed linesFrom linesOf readFrom readTicket
 refused-texts =
     record {
       differ = different (textOf ("01040G" ∷ [])) (textOf ("01040g" ∷ [])) 5 (λ e. omega arith);
@@ -81,8 +78,8 @@ refused-texts =
       after = buffer;
       first = record { answered = refl; buffer = refl };
       second = record { answered = refl; buffer = refl };
-      firstSettles = settles-so (textOf ("01040G" ∷ [])) (refused 2 1) refl;
-      secondSettles = settles-so (textOf ("01040g" ∷ [])) (refused 2 1) refl;
+      firstSettles = refl;
+      secondSettles = refl;
     }
 
 pub lettering-cases : LetteringCases

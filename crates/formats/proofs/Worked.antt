@@ -26,11 +26,11 @@ use Rattle.formats.specs.Ticket.{atEnd, readTicket}
 use Rattle.formats.specs.Table.{textOf, opening}
 use Rattle.formats.specs.FurtherRuns.{furtherRuns}
 use Rattle.formats.specs.LetterRuns.{letterRuns}
-use Rattle.formats.specs.Worked.{qualifyingIn, SettlingRounds, commitBoundOf, Case9MeetsCommitBound}
+use Rattle.formats.specs.Worked.{qualifyingIn, RoundsThatQualify, commitBoundOf, Case9MeetsCommitBound}
 
-pub settling-rounds : SettlingRounds
-unfolding SettlingRounds qualifyingTo qualifyingRounds qualifyingIn textOf ascii opening furtherRuns letterRuns member number numberFrom mapFrom countFrom pointFrom faultOf withinLimits arriving getsData getsCommit sends receives amongFirst reachAt reachIn reach stateOf crashesIn sentBy received afterOutcome after statesAfter isUndecided anyUndecided speaks carries carriedIn dataIn commitsIn isIdle countsAsCrash crashCount initial withRound runTo runOf crashesOf valuesHeld allAre oneValue qualifies digitValue isDigit scan closed unclosed linesFrom linesOf proceed readFrom isKind headerSays afterProposal proposalSays failureLine placesCrash allBetween suitsStep crashSays failureSays lineSays unproposed withProposal withCrash begin store accept atEnd readTicket
-settling-rounds = refl
+pub rounds-that-qualify : RoundsThatQualify
+unfolding RoundsThatQualify qualifyingTo qualifyingRounds qualifyingIn textOf ascii opening furtherRuns letterRuns member number numberFrom mapFrom countFrom pointFrom faultOf withinLimits arriving getsData getsCommit sends receives amongFirst reachAt reachIn reach stateOf crashesIn sentBy received afterOutcome after statesAfter isUndecided anyUndecided speaks carries carriedIn dataIn commitsIn isIdle countsAsCrash crashCount initial withRound runTo runOf crashesOf valuesHeld allAre oneValue qualifies digitValue isDigit scan closed unclosed linesFrom linesOf proceed readFrom isKind headerSays afterProposal proposalSays failureLine placesCrash allBetween suitsStep crashSays failureSays lineSays unproposed withProposal withCrash begin store accept atEnd readTicket
+rounds-that-qualify = refl
 
 pub case-9-meets-commit-bound : Case9MeetsCommitBound
 unfolding Case9MeetsCommitBound commitBoundOf textOf ascii member number numberFrom mapFrom countFrom pointFrom faultOf withinLimits arriving getsData getsCommit sends receives amongFirst reachAt reachIn reach stateOf crashesIn sentBy received afterOutcome after statesAfter isUndecided anyUndecided speaks carries carriedIn dataIn commitsIn isIdle countsAsCrash crashCount initial withRound runTo runOf crashesOf digitValue isDigit scan closed unclosed linesFrom linesOf proceed readFrom isKind headerSays afterProposal proposalSays failureLine placesCrash allBetween suitsStep crashSays failureSays lineSays unproposed withProposal withCrash begin store accept atEnd readTicket

@@ -7,9 +7,11 @@ use Prim.Native.String.{String}
 use lib.ListN.{length, replicate}
 use Rattle.general.specs.Text.{ascii}
 use Rattle.formats.specs.ResultLine.{resultSize}
+use Rattle.formats.specs.Reading.{refused}
 use Rattle.formats.specs.Running.{running, programWrites}
-use Rattle.formats.specs.Code.{placedCode, runCode}
-use Rattle.formats.specs.Table.{textOf, case1, case10Passes, case12}
+use Rattle.formats.specs.Settle.{settling}
+use Rattle.formats.specs.Code.{placedCode, runCode, settleCode}
+use Rattle.formats.specs.Table.{textOf, case1, case6, case10Passes, case12}
 use Rattle.formats.specs.ReadingCases.{afterOpening}
 
 -- A refused text, and the line that the program writes for it: 1F, number, line (2 bytes); 0 goes with refusal 1.
@@ -33,14 +35,17 @@ refusalRows =
 pub record RefusalCases : Type 0 where
   pub rows : length refusalRows ≡ 9
   pub written : map (λ (row : RefusalRow). programWrites (row .text)) refusalRows ≡ map (λ (row : RefusalRow). textOf (row .line ∷ [])) refusalRows
+  -- settling has the same refusals, with their lines (document 01, 'Refused calls', "Settling")
+  pub settled : map (λ (row : RefusalRow). settling (row .text)) refusalRows
+      ≡ refused 1 0 ∷ refused 2 1 ∷ refused 3 2 ∷ refused 4 1 ∷ refused 5 3 ∷ refused 6 8 ∷ refused 7 6 ∷ refused 8 6 ∷ refused 2 67 ∷ []
 
--- What a C caller is answered: case 12's refusal 8 at line 6, refusal 9 of no line, the size of case 1's result; and refusal 8 at line 6 of the second
--- ticket of several.
+-- What a C caller is answered: case 12's refusal 8 at line 6, refusal 9 of no line, the size of case 1's result; of settling case 12's refusal, and round 3 of
+-- case 6; and refusal 8 at line 6 of the second ticket of several.
 unfoldable pub CodeCases : Type 0
 CodeCases =
     runCode (running (textOf (case12 .ticket)) 0) ∷ runCode (running (textOf (case1 .ticket)) 100) ∷ runCode (running (textOf (case1 .ticket)) 101)
-    ∷ placedCode 2 8 6 ∷ []
-    ≡ 524294 ∷ 589824 ∷ 101 ∷ 8590458886 ∷ []
+    ∷ settleCode (settling (textOf (case12 .ticket))) ∷ settleCode (settling (textOf (case6 .ticket))) ∷ placedCode 2 8 6 ∷ []
+    ≡ 524294 ∷ 589824 ∷ 101 ∷ 524294 ∷ 3 ∷ 8590458886 ∷ []
 
 -- The room that a result needs (document 02, Paper 2: "Refusal 9 now means output shorter than 21n + 17 bytes"), and the most that one has.
 pub record ResultSizes : Type 0 where

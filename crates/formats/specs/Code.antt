@@ -6,8 +6,6 @@ use Prim.Native.Nat.{ℕ, _+_, _*_}
 use lib.ListN.{length}
 use Rattle.formats.specs.Reading.{Reading, accepted, refused}
 use Rattle.formats.specs.Running.{running, bufferAfter}
-use Rattle.formats.specs.Settle.{Settles}
-use Rattle.formats.specs.Ticket.{readTicket}
 
 -- From here on a code is a refusal's.
 abbrev pub refusalsFrom : ℕ
@@ -40,9 +38,3 @@ pub record RunCall (text before after : List ℕ) (code : ℕ) : Type 0 where
 unfoldable pub settleCode : Reading ℕ → ℕ
 settleCode (accepted r) = r
 settleCode (refused number line) = refusalCode number line
-
--- The number is the code of an answer that is right for the ticket: the contract of `uc_settle`.
-pub record SettlesAs (text : List ℕ) (code : ℕ) : Type 0 where
-  pub answer : Reading ℕ
-  pub settles : Settles (readTicket text) answer
-  pub coded : code ≡ settleCode answer

@@ -2,15 +2,15 @@
 -- (include/agreement.h; docs/DECISIONS.md, S5), and the claims over C calls are stated in them (`Demand1`, demands/specs).
 use mathlib.Core.List.{List}
 use mathlib.Core.Path.{_≡_}
-use mathlib.Core.Bool.{true}
 use Prim.Native.Nat.{ℕ, _/_, _%_, _≤_, _<_}
 use Rattle.consensus.specs.Instance.{Instance}
-use Rattle.coordinator.specs.Settling.{qualifies}
+use Rattle.coordinator.specs.Settling.{firstSettling}
 use Rattle.formats.specs.Reading.{Reading, accepted, refused}
 use Rattle.formats.specs.Ticket.{readTicket}
 use Rattle.formats.specs.ResultLine.{resultText, resultSize}
 use Rattle.formats.specs.Running.{running}
-use Rattle.formats.specs.Code.{refusalsFrom, placesFrom, placedCode, runCode, SettlesAs}
+use Rattle.formats.specs.Settle.{settling}
+use Rattle.formats.specs.Code.{refusalsFrom, placesFrom, placedCode, runCode, settleCode}
 
 -- The code of a refusal: its place, its number, from 1 to `most`, and its line are read off by division.
 pub record TellsRefusal (most place number line code : ℕ) : Type 0 where
@@ -30,12 +30,11 @@ pub record TellsSize (text : List ℕ) (room code : ℕ) : Type 0 where
   pub least : resultSize 1 ≤ code
   pub most : code ≤ resultSize 64
 
--- The code of a settling round of the ticket.
-pub record TellsRound (text : List ℕ) (r code : ℕ) : Type 0 where
+-- The code of a round: the settling round of the ticket.
+pub record TellsRound (text : List ℕ) (code : ℕ) : Type 0 where
   pub instance : Instance
   pub read : readTicket text ≡ accepted instance
-  pub settles : qualifies instance r ≡ true
-  pub round : code ≡ r
+  pub round : code ≡ firstSettling instance
   pub least : 1 ≤ code
   pub most : code ≤ 64
 
@@ -45,7 +44,7 @@ TellsRun text room (accepted result) code = TellsSize text room code
 TellsRun text room (refused number line) code = TellsRefusal 9 0 number line code
 
 unfoldable pub TellsSettling : (text : List ℕ) → Reading ℕ → (code : ℕ) → Type 0
-TellsSettling text (accepted r) code = TellsRound text r code
+TellsSettling text (accepted r) code = TellsRound text code
 TellsSettling text (refused number line) code = TellsRefusal 8 0 number line code
 
 -- Every refusal with a place is read off its code. Every answer's code tells it; a code is at least `refusalsFrom` just if the answer is the refusal that
@@ -58,8 +57,8 @@ pub record CodesApart : Type 0 where
   pub runRefused : (text : List ℕ) (room code : ℕ) → code ≡ runCode (running text room) → refusalsFrom ≤ code
       → running text room ≡ refused (code / refusalsFrom % refusalsFrom) (code % refusalsFrom)
   pub runPlaceless : (text : List ℕ) (room code : ℕ) → code ≡ runCode (running text room) → code < placesFrom
-  pub settling : (text : List ℕ) (code : ℕ) (s : SettlesAs text code) → TellsSettling text (s .answer) code
-  pub settlingAccepted : (text : List ℕ) (code : ℕ) → SettlesAs text code → code < refusalsFrom → TellsRound text code code
-  pub settlingRefused : (text : List ℕ) (code : ℕ) → SettlesAs text code → refusalsFrom ≤ code
+  pub settled : (text : List ℕ) → TellsSettling text (settling text) (settleCode (settling text))
+  pub settledAccepted : (text : List ℕ) (code : ℕ) → code ≡ settleCode (settling text) → code < refusalsFrom → TellsRound text code
+  pub settledRefused : (text : List ℕ) (code : ℕ) → code ≡ settleCode (settling text) → refusalsFrom ≤ code
       → readTicket text ≡ refused (code / refusalsFrom % refusalsFrom) (code % refusalsFrom)
-  pub settlingPlaceless : (text : List ℕ) (code : ℕ) → SettlesAs text code → code < placesFrom
+  pub settledPlaceless : (text : List ℕ) (code : ℕ) → code ≡ settleCode (settling text) → code < placesFrom

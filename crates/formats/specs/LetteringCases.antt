@@ -4,11 +4,12 @@ use mathlib.Core.List.{List, [], _∷_}
 use mathlib.Core.Path.{_≡_}
 use Prim.Native.Nat.{ℕ}
 use Rattle.formats.specs.Capitals.{EqualUpToCase, InCapitals}
-use Rattle.formats.specs.Code.{refusalCode, RunCall, SettlesAs}
+use Rattle.formats.specs.Settle.{settling}
+use Rattle.formats.specs.Code.{refusalCode, RunCall, settleCode}
 use Rattle.formats.specs.Table.{textOf, case1}
 use Rattle.formats.specs.LetterRuns.{case1Mixed}
 
--- Two different texts, equal up to the case of letters. Run into equal buffers both answer `code` and leave the same bytes; settling may answer `settled` of
+-- Two different texts, equal up to the case of letters. Run into equal buffers both answer `code` and leave the same bytes; settling answers `settled` of
 -- both.
 pub record TwoLetterings (a b : List ℕ) (code settled : ℕ) : Type 0 where
   pub differ : a ≡ b → ⊥
@@ -17,8 +18,8 @@ pub record TwoLetterings (a b : List ℕ) (code settled : ℕ) : Type 0 where
   pub after : List ℕ
   pub first : RunCall a before after code
   pub second : RunCall b before after code
-  pub firstSettles : SettlesAs a settled
-  pub secondSettles : SettlesAs b settled
+  pub firstSettles : settled ≡ settleCode (settling a)
+  pub secondSettles : settled ≡ settleCode (settling b)
 
 pub record LetteringCases : Type 0 where
   -- case 1 and its text in mixed letters: the 101 bytes of its result, settled in round 1

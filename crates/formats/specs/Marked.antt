@@ -1,8 +1,10 @@
--- What the program writes for a marked case, and what document 01 says that it writes ('Worked runs').
+-- What the program writes for a marked case, and what document 01 says that it writes ('Worked runs'); and what settling answers on it (document 02, Paper 6).
 use mathlib.Core.List.{List, [], _∷_, _++_, map}
 use mathlib.Core.Path.{_≡_}
 use Prim.Native.Nat.{ℕ}
+use Rattle.formats.specs.Reading.{Reading}
 use Rattle.formats.specs.Running.{programWrites}
+use Rattle.formats.specs.Settle.{settling}
 use Rattle.formats.specs.Table.{Case, textOf, cases}
 use Rattle.formats.specs.FurtherRuns.{furtherRuns}
 use Rattle.formats.specs.LetterRuns.{letterRuns}
@@ -15,9 +17,15 @@ writes c = programWrites (textOf (c .ticket))
 unfoldable pub expected : Case → List ℕ
 expected c = textOf (c .output)
 
+-- What settling answers on the case's ticket.
+unfoldable pub settles : Case → Reading ℕ
+settles c = settling (textOf (c .ticket))
+
 -- The claim: cases 1 to 12, each of them, are what the definitions give, from the ticket's text to the text written (document 01, 'Worked runs': "Cases 1
 -- to 12 are the marked ones"); and so are the further runs and those in small letters.
 pub record MarkedCases : Type 0 where
   pub numbers : map (λ (c : Case). c .number) (cases ++ furtherRuns ++ letterRuns)
-      ≡ 1 ∷ 2 ∷ 3 ∷ 4 ∷ 5 ∷ 6 ∷ 7 ∷ 8 ∷ 9 ∷ 10 ∷ 10 ∷ 11 ∷ 12 ∷ 13 ∷ 14 ∷ 15 ∷ 16 ∷ 17 ∷ 18 ∷ 19 ∷ 20 ∷ 21 ∷ 22 ∷ 23 ∷ []
+      ≡ 1 ∷ 2 ∷ 3 ∷ 4 ∷ 5 ∷ 6 ∷ 7 ∷ 8 ∷ 9 ∷ 10 ∷ 10 ∷ 11 ∷ 12 ∷ 13 ∷ 14 ∷ 15 ∷ 16 ∷ 17 ∷ 18 ∷ 19 ∷ 20 ∷ 21 ∷ 22 ∷ 23 ∷ 24 ∷ 25 ∷ 26 ∷ []
   pub written : map writes (cases ++ furtherRuns ++ letterRuns) ≡ map expected (cases ++ furtherRuns ++ letterRuns)
+  -- and so is what settling answers (document 02, Paper 6: "Case 1 gives 1")
+  pub settled : map settles (cases ++ furtherRuns ++ letterRuns) ≡ map (λ (c : Case). c .settled) (cases ++ furtherRuns ++ letterRuns)

@@ -1,13 +1,17 @@
--- Settling a ticket (document 01, 'The result', last paragraph, and 'Refused calls', "Settling"). The round is left free among those that qualify.
-use mathlib.Core.Path.{_≡_}
+-- Settling a ticket (document 01, 'The result', last paragraph, and 'Refused calls', "Settling"; document 02, Paper 6: "It is then decided by a definition
+-- too").
+use mathlib.Core.List.{List}
 use Prim.Native.Nat.{ℕ}
-use mathlib.Core.Bool.{true}
 use Rattle.consensus.specs.Instance.{Instance}
-use Rattle.coordinator.specs.Settling.{qualifies}
+use Rattle.coordinator.specs.Settling.{firstSettling}
 use Rattle.formats.specs.Reading.{Reading, accepted, refused}
+use Rattle.formats.specs.Ticket.{readTicket}
 
--- An answer of the settling operation, a round or a refusal with its line, is right for a ticket as read: a round that qualifies, or that refusal.
-unfoldable pub Settles : Reading Instance → Reading ℕ → Type 0
-Settles (accepted x) (accepted r) = qualifies x r ≡ true
-Settles (accepted x) (refused number line) = ⊥
-Settles (refused number line) answer = answer ≡ refused number line
+-- The settling round of an instance, or the refusal.
+unfoldable pub settlingIn : Reading Instance → Reading ℕ
+settlingIn (accepted x) = accepted (firstSettling x)
+settlingIn (refused number line) = refused number line
+
+-- What settling answers on a text: the lowest round that qualifies, or a refusal, 1 to 8, with its line.
+unfoldable pub settling : (text : List ℕ) → Reading ℕ
+settling text = settlingIn (readTicket text)

@@ -1,4 +1,4 @@
--- What the papers say of a case besides its result: which rounds qualify as settling round (document 01, 'The result', last paragraph), and that the bound
+-- What the papers say of a case besides its result: which rounds qualify for settling (document 01, 'The result', last paragraph), and that the bound
 -- on commits is met (document 02, Paper 4).
 use mathlib.Core.List.{List, [], _∷_, _++_, map}
 use mathlib.Core.Path.{_≡_}
@@ -20,12 +20,13 @@ qualifyingIn (refused refusal line) = []
 
 -- The claim: the rounds that qualify in cases 1 to 9, in the further runs and in those in small letters (document 01, 'The result': "In case 1 both 1 and 2
 -- qualify").
-unfoldable pub SettlingRounds : Type 0
-SettlingRounds =
+unfoldable pub RoundsThatQualify : Type 0
+RoundsThatQualify =
     map (λ (c : Case). qualifyingIn (readTicket (textOf (c .ticket))))
     (case1 ∷ case2 ∷ case3 ∷ case4 ∷ case5 ∷ case6 ∷ case7 ∷ case8 ∷ case9 ∷ furtherRuns ++ letterRuns)
     ≡ (1 ∷ 2 ∷ []) ∷ (1 ∷ []) ∷ (1 ∷ []) ∷ (2 ∷ []) ∷ (2 ∷ []) ∷ (3 ∷ []) ∷ (1 ∷ 2 ∷ []) ∷ (1 ∷ []) ∷ (1 ∷ 2 ∷ 3 ∷ 4 ∷ 5 ∷ 6 ∷ 7 ∷ [])
-    ∷ (1 ∷ 2 ∷ []) ∷ (1 ∷ 2 ∷ []) ∷ (2 ∷ []) ∷ (1 ∷ 2 ∷ []) ∷ (1 ∷ []) ∷ (1 ∷ 2 ∷ 3 ∷ []) ∷ (1 ∷ 2 ∷ 3 ∷ [])
+    ∷ (1 ∷ 2 ∷ []) ∷ (1 ∷ 2 ∷ []) ∷ (2 ∷ []) ∷ (1 ∷ 2 ∷ []) ∷ (1 ∷ []) ∷ (1 ∷ 2 ∷ 3 ∷ []) ∷ (1 ∷ 2 ∷ 3 ∷ []) ∷ (2 ∷ 3 ∷ [])
+    ∷ (1 ∷ 2 ∷ []) ∷ (2 ∷ [])
     ∷ (1 ∷ 2 ∷ []) ∷ (1 ∷ []) ∷ (1 ∷ []) ∷ (2 ∷ 3 ∷ []) ∷ []
 
 -- n, the speakers, the commit messages that count, and the most that there may be of them, of a ticket as read.

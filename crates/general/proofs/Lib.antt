@@ -4,6 +4,7 @@ pub mod Bytes
 pub mod BigEndian
 pub mod Bits
 pub mod Indexed
+pub mod Search
 pub mod Counts
 pub mod CountCases
 pub mod Table

@@ -1,4 +1,5 @@
 pub mod Indexed
+pub mod Search
 pub mod Counts
 pub mod CountCases
 pub mod Table

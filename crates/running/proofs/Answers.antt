@@ -9,10 +9,10 @@ use lib.Dec.{ltb}
 use lib.ListN.{length, take, drop}
 use Rattle.consensus.specs.Instance.{Instance}
 use Rattle.consensus.specs.CrashCount.{crashCount}
-use Rattle.coordinator.specs.Run.{Run, runTo, runOf, lastRound, crashesOf}
+use Rattle.coordinator.specs.Run.{Run, runOf, crashesOf}
 use Rattle.coordinator.specs.MessagesBySender.{dataBy, commitsBy}
-use Rattle.coordinator.specs.Settling.{qualifies}
-use Rattle.coordinator.proofs.Settled.{settled-at-last}
+use Rattle.coordinator.specs.Settling.{firstSettling}
+use Rattle.coordinator.proofs.FirstSettling.{rounds-settled}
 use Rattle.tables.specs.InstanceOfTable.{instanceOf}
 use Rattle.tables.specs.declared.InstanceTable.{InstanceTable}
 use Rattle.tables.specs.declared.RunTable.{RunTable}
@@ -23,10 +23,11 @@ use Rattle.formats.proofs.WellFormed.{accepted-well-formed}
 use Rattle.formats.specs.ResultLine.{resultText, resultLines, resultSize}
 use Rattle.formats.proofs.ResultLength.{length-text}
 use Rattle.formats.specs.Running.{resultIn, running, bufferAfter}
-use Rattle.formats.specs.Settle.{Settles}
+use Rattle.formats.specs.Settle.{settlingIn, settling}
 use Rattle.coordinator_run.specs.CrashCountOver.{crashCountOver}
 use Rattle.coordinator_run.specs.Running.{RunOf}
 use Rattle.coordinator_run.proofs.Crashes.{counts-by-rounds}
+use Rattle.coordinator_run.proofs.Settling.{whole-run, settled-run}
 use Rattle.running.specs.Answer.{answerOf, Ran}
 use Rattle.running.specs.Settling.{settlingOf}
 use Rattle.running.specs.declared.RunAnswer.{RunAnswer}
@@ -75,29 +76,31 @@ module _ (text before : List ℕ) where
 
 -- What is written of the code's run and its f is the instance's result.
 pub run-written : (table : InstanceTable) (before after : List ℕ) (run : RunTable) (dataCounts commitCounts : List ℕ) (f : ℕ)
-    → RunOf (instanceOf table) (table .n) run dataCounts commitCounts
+    → RunOf (instanceOf table) false (table .n) run dataCounts commitCounts
     → f ≡ crashCountOver (table .n) (table .«crash_rounds») (run .ends) (run .«end_rounds»)
     → after ≡ resultLines (runFrom (table .n) run) (take (table .n) dataCounts) (take (table .n) commitCounts) f ++ drop (resultSize (table .n)) before
     → after ≡ resultText (instanceOf table) ++ drop (resultSize (table .n)) before
 unfolding resultText crashesOf runOver runOf dataBy commitsBy
-run-written table before after run dataCounts commitCounts f ran counted stored =
+run-written table before after run dataCounts commitCounts f whole counted stored =
+    let ran = whole-run (instanceOf table) (table .n) run dataCounts commitCounts whole in
     let crashes = counted ∙ counts-by-rounds table run ∙ ap (λ (r : Run). crashCount (instanceOf table .pattern) (r .states)) (ran .run) in
     stored ∙ rw (ran .run, ran .dataSent, ran .commitsSent, crashes)
 
--- The run's last round qualifies.
-pub settles-last : (text : List ℕ) (table : InstanceTable) (run : RunTable) → readTicket text ≡ accepted (instanceOf table)
-    → runFrom (table .n) run ≡ runTo (instanceOf table) (lastRound (instanceOf table))
-    → Settles (readTicket text) (settlingOf (SettleAnswer.Round (run .rounds)))
-unfolding Settles settlingOf runOver runOf
-settles-last text table run read same =
-    rw read
-    (ap (qualifies (instanceOf table)) (ap (λ (r : Run). r .rounds) same)
-    ∙ settled-at-last (instanceOf table) (accepted-well-formed text (instanceOf table) read))
+-- What settling answers: the round that was found, or the refusal of reading the ticket.
+module _ (text : List ℕ) where
+  pub settled-in : (table : InstanceTable) (run : RunTable) (dataCounts commitCounts : List ℕ) → readTicket text ≡ accepted (instanceOf table)
+      → RunOf (instanceOf table) true (table .n) run dataCounts commitCounts → settlingOf (SettleAnswer.Round (run .rounds)) ≡ settling text
+  unfolding settling settlingIn settlingOf runOver
+  settled-in table run dataCounts commitCounts read ran =
+      let x : Instance = instanceOf table in
+      let formed = accepted-well-formed text x read in
+      let settled = settled-run x (table .n) run dataCounts commitCounts formed ran in
+      let round : run .rounds ≡ firstSettling x = ap (λ (known : Run). known .rounds) (settled .run) ∙ rounds-settled x formed in
+      rw (read, round) refl
 
-pub settles-refused : (text : List ℕ) (number line : ℕ) → readTicket text ≡ refused number line
-    → Settles (readTicket text) (settlingOf (SettleAnswer.Refused number line))
-unfolding Settles settlingOf
-settles-refused text number line e = rw e refl
+  pub settle-refused : (number line : ℕ) → readTicket text ≡ refused number line → settlingOf (SettleAnswer.Refused number line) ≡ settling text
+  unfolding settling settlingIn settlingOf
+  settle-refused number line e = rw e refl
 
 -- What running writes has room.
 module _ (text before after : List ℕ) (answer : RunAnswer) (size : ℕ) (ran : Ran text before after answer) (written : answer ≡ Written size) where

@@ -6,9 +6,8 @@ ghost use lib.ListN.{length, drop};
 ghost use Rattle.coordinator.specs.WellFormed.{WellFormed};
 ghost use Rattle.tables.specs.InstanceOfTable.{instanceOf, tableOf};
 ghost use Rattle.formats.specs.ResultLine.{resultSize, resultText};
-ghost use Rattle.formats.specs.Ticket.{readTicket};
 ghost use Rattle.ticket.specs.Header.{AfterHeader};
-ghost use Rattle.formats.specs.Settle.{Settles};
+ghost use Rattle.formats.specs.Settle.{settling};
 ghost use Rattle.running.specs.Answer.{Ran};
 ghost use Rattle.running.specs.Settling.{settlingOf};
 use ticket::HeaderRead;
@@ -20,7 +19,7 @@ pub enum RunAnswer {
     Refused(u8, u16),
 }
 
-// What settling answers: a round, or the number of a refusal and its line.
+// What settling answers: the settling round, or the number of a refusal and its line.
 pub enum SettleAnswer {
     Round(u8),
     Refused(u8, u16),
@@ -45,10 +44,12 @@ fn write_run<'a>(
 {
     let mut data_by = [0u8; 64];
     let mut commits_by = [0u8; 64];
+    let until_settled = false;
     let run = coordinator_run::run_all(
         n,
         t,
         values,
+        until_settled,
         crash_rounds,
         steps,
         reached,
@@ -116,9 +117,9 @@ pub fn run_ticket(text: &[u8], out: &mut [u8]) -> RunAnswer
     }
 }
 
-// Names a round at whose end all processes not crashed hold one value: the run's last.
+// Names the lowest round of the run at whose end all processes not crashed hold one value: the last round of the run as far as it is run.
 pub fn settle(text: &[u8]) -> SettleAnswer
-    ensures { λ r. ⌜ Settles (readTicket (now (text .entry))) (settlingOf r) ⌝ }
+    ensures { λ r. ⌜ settlingOf r ≡ settling (now (text .entry)) ⌝ }
 {
     let read = ticket::read(text);
     let answer = read.answer;
@@ -129,10 +130,12 @@ pub fn settle(text: &[u8]) -> SettleAnswer
     let values = table.values;
     let mut data_by = [0u8; 64];
     let mut commits_by = [0u8; 64];
+    let until_settled = true;
     let run = coordinator_run::run_all(
         table.n,
         table.t,
         values,
+        until_settled,
         &table.crash_rounds,
         &table.steps,
         &table.reached,

@@ -8,7 +8,7 @@ use second::interface::{Agreement, REFUSED};
 use second::report::{process_line, result_length, write_line};
 use second::report::{LAST_LINE_LENGTH, LONGEST_RESULT, PROCESS_LINE_LENGTH};
 use second::rng::Rng;
-use second::separate::run_separately;
+use second::separate::{run_separately, SeparateRun};
 use second::{Simulator, Ticket};
 
 /// Bytes kept behind each lent buffer, to see that nobody writes there.
@@ -25,6 +25,8 @@ pub struct Counts {
     pub runs: u64,
     /// Calls that settle.
     pub settlings: u64,
+    /// Settling rounds of the module under test that were held to their definition.
+    pub settled: u64,
     /// Runs by separate local parts.
     pub separate_runs: u64,
     /// Results of the module under test whose counts by process were added up.
@@ -48,6 +50,7 @@ impl fmt::Display for Counts {
         write!(
             f,
             "{} tickets ({} accepted, {} refused) in {} runs, {} settlings, \
+             {} settling rounds held to what separate parts hold, \
              {} runs by separate parts, {} results added up and {} held to the bounds on messages \
              and on commits; \
              {} of these tickets with each of the 256 bytes in place of another; \
@@ -57,6 +60,7 @@ impl fmt::Display for Counts {
             self.refused,
             self.runs,
             self.settlings,
+            self.settled,
             self.separate_runs,
             self.added_up,
             self.within_bounds,
@@ -179,6 +183,13 @@ fn number_at(line: &[u8], place: usize, bytes: usize) -> Option<u64> {
     })
 }
 
+/// Whether a round is the settling round of a run whose rounds, from 1 on, qualify
+/// or not: it does, no lower one does, and every later one does (02, Paper 6).
+fn is_settling_round(round: u64, qualifies: &[bool]) -> bool {
+    let is_of_run = 1 <= round && round <= qualifies.len() as u64;
+    is_of_run && (1..).zip(qualifies).all(|(other, &one)| one == (round <= other))
+}
+
 /// The text in other letters, if it has any; equal texts give equal ones.
 fn relettered(text: &[u8]) -> Option<Vec<u8>> {
     if !text.iter().any(u8::is_ascii_alphabetic) {
@@ -207,20 +218,21 @@ impl<M: Agreement> Comparison<M> {
     }
 
     /// Everything about one ticket: runs with output buffers of the lengths
-    /// `rooms`, settling, separate local parts, and the sums of the counts and
-    /// their bounds.
+    /// `rooms`, settling, separate local parts, by which settling is right too, and
+    /// the sums of the counts and their bounds.
     pub fn ticket(&mut self, text: &[u8], rooms: &[usize]) -> Result<(), Difference> {
         let differs = |what| Difference::Ticket { text: text.to_vec(), what };
         for &room in rooms {
             self.run(text, room).map_err(differs)?;
         }
-        self.settle(text).map_err(differs)?;
+        let settled = self.settle(text).map_err(differs)?;
         match Ticket::parse(text) {
             Ok(ticket) => {
                 self.counts.accepted += 1;
                 let (_, output) = run_into(&mut self.module, text, LONGEST_RESULT, 0);
                 let result = &output[..result_length(ticket.n)];
-                self.separate_run(&ticket, result).map_err(differs)?;
+                let separate = self.separate_run(&ticket, result).map_err(differs)?;
+                self.keep_settled(settled, result, &separate).map_err(differs)?;
                 self.add_up(result).map_err(differs)?;
                 self.keep_bounds(result).map_err(differs)
             }
@@ -241,21 +253,38 @@ impl<M: Agreement> Comparison<M> {
             .map_err(|what| format!("running with {room} bytes of output {what}"))
     }
 
-    /// Settling: any round that qualifies, or the same refusal.
-    fn settle(&mut self, text: &[u8]) -> Result<(), String> {
+    /// Settling: the same round, or the same refusal.
+    fn settle(&mut self, text: &[u8]) -> Result<u64, String> {
         self.counts.settlings += 1;
         let answer = self.module.settle(text);
-        match self.second.settling_rounds(text) {
-            Ok(rounds) if rounds.iter().any(|&round| u64::from(round) == answer) => Ok(()),
-            Ok(rounds) => Err(format!(
-                "settling answers {}; the rounds that qualify are {rounds:?}",
-                in_words(answer)
-            )),
-            Err(refusal) if answer == second::interface::refused(refusal) => Ok(()),
-            Err(refusal) => Err(format!(
-                "settling answers {}, in the second implementation {refusal}",
-                in_words(answer)
-            )),
+        let second = Agreement::settle(&mut self.second, text);
+        if answer == second {
+            return Ok(answer);
+        }
+        let [answer, second] = [answer, second].map(in_words);
+        Err(format!("settling answers {answer}, {IN_SECOND} {second}"))
+    }
+
+    /// The claim of Paper 6 about the module alone: the round that it names is the
+    /// settling round by what its own separate parts hold at the end of each of the
+    /// rounds that its own result has.
+    fn keep_settled(
+        &mut self,
+        round: u64,
+        result: &[u8],
+        separate: &SeparateRun,
+    ) -> Result<(), String> {
+        self.counts.settled += 1;
+        let rounds = number_at(&result[result.len() - LAST_LINE_LENGTH..], 1, 1);
+        let qualifies = rounds.and_then(|rounds| separate.one_value.get(..rounds as usize));
+        match qualifies {
+            Some(qualifies) if is_settling_round(round, qualifies) => Ok(()),
+            Some(qualifies) => {
+                let rounds = (1..).zip(qualifies).filter(|(_, &one)| one);
+                let rounds: Vec<u8> = rounds.map(|(round, _)| round).collect();
+                Err(format!("settling answers {round}; by separate parts {rounds:?} qualify"))
+            }
+            None => Err(format!("the run has {rounds:?} rounds")),
         }
     }
 
@@ -283,11 +312,11 @@ impl<M: Agreement> Comparison<M> {
 
     /// Separate local parts against the lines of the module's own result: the
     /// ends, and the counts of what left each part and was carried.
-    fn separate_run(&mut self, ticket: &Ticket, result: &[u8]) -> Result<(), String> {
+    fn separate_run(&mut self, ticket: &Ticket, result: &[u8]) -> Result<SeparateRun, String> {
         self.counts.separate_runs += 1;
-        let ends = run_separately(&mut self.module, ticket)?;
+        let separate = run_separately(&mut self.module, ticket)?;
         let lines = result.chunks_exact(PROCESS_LINE_LENGTH);
-        for ((id, end), line) in (1..).zip(ends).zip(lines) {
+        for ((id, end), line) in (1..).zip(&separate.ends).zip(lines) {
             let mut separate = [0; PROCESS_LINE_LENGTH];
             write_line(&process_line(id, end.status, end.value, end.carried), &mut separate);
             if separate != line {
@@ -298,7 +327,7 @@ impl<M: Agreement> Comparison<M> {
                 ));
             }
         }
-        Ok(())
+        Ok(separate)
     }
 
     /// The claim of Paper 2 about the module's own result: the counts of the
@@ -422,7 +451,7 @@ pub fn rooms_around(n: u8, by: usize) -> Vec<usize> {
 mod tests {
     use super::*;
     use crate::exhaustive;
-    use second::process::{MessageCounts, Status};
+    use second::process::{MessageCounts, Process, Status};
     use second::recount::{counted, crashed_before, crashes_in, decided_before, end_round};
     use second::simulation::Simulation;
     use second::worked;
@@ -435,10 +464,18 @@ mod tests {
         CountsOneCommitMore,
         WritesBehindTheResult,
         WritesOnRefusal,
-        SettlesAfterTheRun,
         RefusesMixedLetters,
         WritesTheLettersOfTheTicket,
         SettlesLaterForSmallLetters,
+        SettlesInTheLastRound,
+        SettlesOneRoundLate,
+        SettlesAfterTheRun,
+        SettlesAsTheRoundBegins,
+        SettlesWithTheValuesOfTheCrashed,
+        SettlesByTheDecidedAlone,
+        SettlesByWhoNeverCrashes,
+        SettlesInRound0,
+        SettlesWithTheFirstDecision,
         SwapsTheCounts,
         CountsAtTheProcessAfter,
         CountsOfAllInEveryLine,
@@ -485,6 +522,19 @@ mod tests {
         Mistake::LeavesOutRoundsWithoutData,
         Mistake::CountsNoMoreCrashesThanData,
         Mistake::SkipsTheEndedInTheCommitList,
+    ];
+
+    /// The mistakes about the settling round (02, Paper 6).
+    const ABOUT_SETTLING: [Mistake; 9] = [
+        Mistake::SettlesInTheLastRound,
+        Mistake::SettlesOneRoundLate,
+        Mistake::SettlesAfterTheRun,
+        Mistake::SettlesAsTheRoundBegins,
+        Mistake::SettlesWithTheValuesOfTheCrashed,
+        Mistake::SettlesByTheDecidedAlone,
+        Mistake::SettlesByWhoNeverCrashes,
+        Mistake::SettlesInRound0,
+        Mistake::SettlesWithTheFirstDecision,
     ];
 
     /// The mistakes about a result's length.
@@ -599,6 +649,71 @@ mod tests {
         skipping
     }
 
+    /// The status of each process and the value that it holds, or held when it
+    /// crashed.
+    type States = Vec<(Status, u32)>;
+
+    /// Those of a ticket's processes before round 1 and after each round of its run.
+    fn history(ticket: &Ticket) -> Vec<States> {
+        let states = |processes: &[Process]| {
+            processes.iter().map(|process| (process.status(), process.estimate())).collect()
+        };
+        let mut simulation = Simulation::new(ticket);
+        let mut history = vec![states(simulation.processes())];
+        simulation.run(|_, processes| history.push(states(processes)));
+        history
+    }
+
+    /// Whether the processes of a status hold one value.
+    fn one_value(states: &States, is_compared: impl Fn(Status) -> bool) -> bool {
+        let mut held = states.iter().filter(|(status, _)| is_compared(*status));
+        let first = held.next();
+        held.all(|(_, value)| first.is_some_and(|(_, other)| value == other))
+    }
+
+    fn has_crashed(status: Status) -> bool {
+        matches!(status, Status::Crashed(_))
+    }
+
+    fn has_decided(status: Status) -> bool {
+        matches!(status, Status::Decided(_))
+    }
+
+    /// The round that settling names by a mistake, the run's last if it finds none.
+    fn missettled(mistake: Mistake, ticket: &Ticket) -> u64 {
+        let history = history(ticket);
+        let last = history.len() - 1;
+        let first = |from: usize, is_settled: &dyn Fn(usize) -> bool| {
+            (from..last).find(|&round| is_settled(round)).unwrap_or(last)
+        };
+        let settled = |round: usize| one_value(&history[round], |status| !has_crashed(status));
+        let never_crash = |states: &States| {
+            let ends = history[last].iter().zip(states);
+            ends.filter(|((end, _), _)| !has_crashed(*end)).map(|(_, &state)| state).collect()
+        };
+        let round = match mistake {
+            Mistake::SettlesInTheLastRound => last,
+            Mistake::SettlesOneRoundLate => last.min(first(1, &settled) + 1),
+            Mistake::SettlesAfterTheRun => last + 1,
+            Mistake::SettlesAsTheRoundBegins => first(1, &|round| settled(round - 1)),
+            Mistake::SettlesWithTheValuesOfTheCrashed => {
+                first(1, &|round| one_value(&history[round], |_| true))
+            }
+            Mistake::SettlesByTheDecidedAlone => {
+                first(1, &|round| one_value(&history[round], has_decided))
+            }
+            Mistake::SettlesByWhoNeverCrashes => {
+                first(1, &|round| one_value(&never_crash(&history[round]), |_| true))
+            }
+            Mistake::SettlesInRound0 => first(0, &settled),
+            Mistake::SettlesWithTheFirstDecision => {
+                first(1, &|round| history[round].iter().any(|&(status, _)| has_decided(status)))
+            }
+            _ => first(1, &settled),
+        };
+        round as u64
+    }
+
     /// What a module answers that is mistaken about lengths.
     fn mistake_length(mistake: Mistake, ticket: &[u8], output: &mut [u8]) -> Option<u64> {
         let n = Ticket::parse(ticket).ok()?.n;
@@ -679,13 +794,17 @@ mod tests {
         }
 
         fn settle(&mut self, ticket: &[u8]) -> u64 {
-            let late = match self.1 {
-                Mistake::SettlesAfterTheRun => 2,
-                // Both rounds of case 1 qualify.
-                Mistake::SettlesLaterForSmallLetters if has_small_letters(ticket) => 1,
-                _ => 0,
-            };
-            self.0.settle(ticket) + late
+            let answer = Agreement::settle(&mut self.0, ticket);
+            match (self.1, Ticket::parse(ticket)) {
+                // In capitals this is right.
+                (Mistake::SettlesLaterForSmallLetters, _) if has_small_letters(ticket) => {
+                    answer + 1
+                }
+                (mistake, Ok(ticket)) if ABOUT_SETTLING.contains(&mistake) => {
+                    missettled(mistake, &ticket)
+                }
+                _ => answer,
+            }
         }
 
         fn start(&mut self, process: u64, n: u64, t: u64, value: u32, state: &mut [u8]) -> u64 {
@@ -722,6 +841,7 @@ mod tests {
         comparison.start(3, 4, 2, 30, 9)?;
         comparison.speak(&[2, 4, 2, 2, 0, 0, 0, 0, 10], 7)?;
         comparison.close(&[3, 4, 2, 1, 0, 0, 0, 0, 30], &[0x21, 1, 0, 0, 0, 10])?;
+        exhaustive::settling_rounds_of(&mut comparison, 7)?;
         exhaustive::counts_of(&mut comparison, 64)
     }
 
@@ -732,7 +852,6 @@ mod tests {
             Mistake::CountsOneCommitMore,
             Mistake::WritesBehindTheResult,
             Mistake::WritesOnRefusal,
-            Mistake::SettlesAfterTheRun,
             Mistake::RefusesMixedLetters,
             Mistake::WritesTheLettersOfTheTicket,
             Mistake::SettlesLaterForSmallLetters,
@@ -741,7 +860,7 @@ mod tests {
             Mistake::DecidesOnDataAlone,
         ];
         let about_results = ABOUT_COUNTS.into_iter().chain(ABOUT_CARRYING).chain(ABOUT_LENGTHS);
-        for mistake in others.into_iter().chain(about_results) {
+        for mistake in others.into_iter().chain(about_results).chain(ABOUT_SETTLING) {
             assert!(compared(mistake).is_err(), "{mistake:?}");
         }
     }
@@ -755,7 +874,7 @@ mod tests {
         let result = &output[..room];
         [
             comparison.add_up(result),
-            comparison.separate_run(ticket, result),
+            comparison.separate_run(ticket, result).map(drop),
             comparison.keep_bounds(result),
         ]
         .map(|seen| seen.is_err())
@@ -801,6 +920,64 @@ mod tests {
         for (mistake, [by_parts, by_bounds]) in figures {
             let seen = seen_by_itself(mistake, &worked::case(9));
             assert_eq!(seen, [false, by_parts, by_bounds], "{mistake:?}");
+        }
+    }
+
+    /// A run worked out by hand.
+    fn worked_run(name: &str) -> Ticket {
+        let found = worked::runs().into_iter().find(|(other, _)| *other == name);
+        found.expect(name).1
+    }
+
+    /// What is said of the round that a module names, by its own parts alone.
+    fn settled_by_itself(mistake: Mistake, ticket: &Ticket) -> (u64, bool) {
+        let mut comparison = Comparison::new(Mistaken(Simulator::new(), mistake));
+        let (_, output) = run_into(&mut comparison.module, &ticket.text(), LONGEST_RESULT, 0);
+        let result = &output[..result_length(ticket.n)];
+        let separate = comparison.separate_run(ticket, result).expect("as the result says");
+        let round = comparison.module.settle(&ticket.text());
+        (round, comparison.keep_settled(round, result, &separate).is_ok())
+    }
+
+    /// The round that each mistake names in a run that shows it. In the fifth run
+    /// process 1 crashes with a value that nobody else ever holds, and process 2 sends
+    /// its own to all before it crashes.
+    #[test]
+    fn mistakes_about_settling_are_seen_without_it_too() {
+        let after_a_silent_round = Ticket {
+            failures: vec![Failure::before_sending(1, 1), Failure::sending_commits(2, 0)],
+            ..worked::case(1)
+        };
+        let figures = [
+            (Mistake::SettlesInTheLastRound, worked::case(1), 1, 2),
+            (Mistake::SettlesOneRoundLate, worked::case(1), 1, 2),
+            (Mistake::SettlesAfterTheRun, worked::case(1), 1, 3),
+            (Mistake::SettlesAsTheRoundBegins, worked::case(1), 1, 2),
+            (Mistake::SettlesWithTheValuesOfTheCrashed, after_a_silent_round, 2, 3),
+            (Mistake::SettlesByTheDecidedAlone, worked::case(4), 2, 1),
+            (Mistake::SettlesByWhoNeverCrashes, worked_run("one crashes later"), 2, 1),
+            (Mistake::SettlesInRound0, worked::case(2), 1, 0),
+            (Mistake::SettlesWithTheFirstDecision, worked_run("no commit"), 1, 2),
+        ];
+        assert_eq!(figures.clone().map(|(mistake, ..)| mistake), ABOUT_SETTLING);
+        for (mistake, ticket, right, wrong) in figures {
+            assert_eq!(settled_by_itself(Mistake::None, &ticket), (right, true), "{mistake:?}");
+            assert_eq!(settled_by_itself(mistake, &ticket), (wrong, false), "{mistake:?}");
+        }
+    }
+
+    #[test]
+    fn a_settling_round_is_the_first_of_all_that_qualify() {
+        assert!(is_settling_round(2, &[false, true, true]));
+        for (round, qualifies) in [
+            (1, [false, true, true]),
+            (3, [false, true, true]),
+            (2, [true, true, true]),
+            (2, [false, true, false]),
+            (0, [true, true, true]),
+            (4, [false, false, false]),
+        ] {
+            assert!(!is_settling_round(round, &qualifies), "{round} {qualifies:?}");
         }
     }
 

@@ -1,6 +1,8 @@
 //! Everything small, every byte at every place of a ticket, every count of a
-//! process, and every call of start, speak and close near a valid one.
+//! process, every settling round, the stored tickets, and every call of start, speak
+//! and close near a valid one.
 
+use second::corpus::{self, Entry};
 use second::interface::Agreement;
 use second::local::{SPEECH_LENGTH, STATE_LENGTH};
 use second::patterns::failure_patterns;
@@ -139,14 +141,73 @@ fn dropped<M: Agreement>(comparison: &mut Comparison<M>, n: u8) -> Result<(), Di
     Ok(())
 }
 
+/// For each n every settling round that a run of so many rounds can have (02,
+/// Paper 6).
+pub fn settling_rounds<M: Agreement>(comparison: &mut Comparison<M>) -> Result<(), Difference> {
+    (1..=MOST_PROCESSES).try_for_each(|n| settling_rounds_of(comparison, n))
+}
+
+/// Those of `n` processes: the coordinators before that round crash before they
+/// send anything, those from then on after all their data, and the last decides.
+pub fn settling_rounds_of<M: Agreement>(
+    comparison: &mut Comparison<M>,
+    n: u8,
+) -> Result<(), Difference> {
+    for rounds in 1..=n {
+        for settled in 1..=rounds {
+            let crash = |process| {
+                if process < settled {
+                    Failure::before_sending(process, process)
+                } else {
+                    Failure::sending_commits(process, 0)
+                }
+            };
+            compare_failures(comparison, n, (1..rounds).map(crash).collect())?;
+        }
+    }
+    settled_in_silence(comparison, n)
+}
+
+/// Nobody sends anything before the last round. All propose one value, and settle in
+/// round 1; or the last process proposes another one and crashes in the round before
+/// the last, and the others settle then.
+fn settled_in_silence<M: Agreement>(
+    comparison: &mut Comparison<M>,
+    n: u8,
+) -> Result<(), Difference> {
+    let mut compare = |of_last: u32, failures: Vec<Failure>| {
+        let mut proposals = vec![1; usize::from(n)];
+        proposals[usize::from(n) - 1] = of_last;
+        let ticket = Ticket { n, t: n - 1, proposals, failures };
+        comparison.ticket(&ticket.text(), &[result_length(n)])
+    };
+    for rounds in 1..=n {
+        let silent = (1..rounds).map(|process| Failure::before_sending(process, process));
+        compare(1, silent.clone().collect())?;
+        if 1 < rounds && rounds < n {
+            compare(2, silent.chain([Failure::before_sending(n, rounds - 1)]).collect())?;
+        }
+    }
+    Ok(())
+}
+
+/// The stored tickets, each with its own output buffer.
+pub fn stored<M: Agreement>(comparison: &mut Comparison<M>) -> Result<(), Difference> {
+    corpus::stored().into_iter().try_for_each(|Entry { text, room }| {
+        comparison.ticket(&text, &[room])?;
+        comparison.in_other_letters(&text, room)
+    })
+}
+
 /// A ticket of `n` processes, all proposals different, with the least t that allows
-/// the failures, and an output buffer of the result's length.
+/// the failures, 1 at least where n allows it, and an output buffer of the result's
+/// length.
 fn compare_failures<M: Agreement>(
     comparison: &mut Comparison<M>,
     n: u8,
     failures: Vec<Failure>,
 ) -> Result<(), Difference> {
-    let t = (failures.len() as u8).max(1);
+    let t = (failures.len() as u8).max(1).min(n - 1);
     let proposals = (1..=u32::from(n)).collect();
     comparison.ticket(&Ticket { n, t, proposals, failures }.text(), &[result_length(n)])
 }
@@ -289,6 +350,7 @@ fn speak_and_close<M: Agreement>(
 mod tests {
     use super::*;
     use second::interface::REFUSED;
+    use second::simulation::Simulation;
     use second::Simulator;
     use std::cell::RefCell;
     use std::collections::BTreeSet;
@@ -343,11 +405,19 @@ mod tests {
         ]
     }
 
-    /// The second implementation, with the counts that stand in its results: of
-    /// which process, which of the two, and how many.
+    /// What the second implementation was asked for: the counts that stand in its
+    /// results, of which process, which of the two, and how many; and each settling
+    /// round with the rounds of its run.
+    #[derive(Default)]
+    struct Record {
+        counts: BTreeSet<(u8, usize, u8)>,
+        settled: BTreeSet<(u64, u8)>,
+    }
+
+    /// The second implementation, with a record.
     struct Recorded {
         second: Simulator,
-        counts: Rc<RefCell<BTreeSet<(u8, usize, u8)>>>,
+        record: Rc<RefCell<Record>>,
     }
 
     impl Agreement for Recorded {
@@ -358,14 +428,19 @@ mod tests {
             for (process, line) in (1..).zip(text.lines().filter(|line| line.starts_with("11"))) {
                 for (kind, at) in [16, 18].into_iter().enumerate() {
                     let count = u8::from_str_radix(&line[at..at + 2], 16).expect("two digits");
-                    self.counts.borrow_mut().insert((process, kind, count));
+                    self.record.borrow_mut().counts.insert((process, kind, count));
                 }
             }
             answer
         }
 
         fn settle(&mut self, ticket: &[u8]) -> u64 {
-            self.second.settle(ticket)
+            let answer = self.second.settle(ticket);
+            if let Ok(ticket) = Ticket::parse(ticket) {
+                let rounds = Simulation::new(&ticket).run(|_, _| {}).rounds;
+                self.record.borrow_mut().settled.insert((answer, rounds));
+            }
+            answer
         }
 
         fn start(&mut self, process: u64, n: u64, t: u64, value: u32, state: &mut [u8]) -> u64 {
@@ -381,20 +456,50 @@ mod tests {
         }
     }
 
+    type Part = fn(&mut Comparison<Recorded>, u8) -> Result<(), Difference>;
+
+    /// What a part of the comparison asks for, of `n` processes.
+    fn recorded(part: Part, n: u8) -> Record {
+        let record = Rc::new(RefCell::new(Record::default()));
+        let recorded = Recorded { second: Simulator::new(), record: record.clone() };
+        assert_eq!(part(&mut Comparison::new(recorded), n), Ok(()));
+        record.take()
+    }
+
     #[test]
     fn every_count_of_every_process_stands_in_a_line() {
         for n in [1, 2, 3, 7, 12] {
-            let counts = Rc::new(RefCell::new(BTreeSet::new()));
-            let recorded = Recorded { second: Simulator::new(), counts: counts.clone() };
-            assert_eq!(counts_of(&mut Comparison::new(recorded), n), Ok(()));
             let of_process = |process: u8| {
                 (0..2).flat_map(move |kind| {
                     (0..=n - process).map(move |count| (process, kind, count))
                 })
             };
             let all: BTreeSet<_> = (1..=n).flat_map(of_process).collect();
-            assert_eq!(*counts.borrow(), all, "{n}");
+            assert_eq!(recorded(counts_of, n).counts, all, "{n}");
         }
+    }
+
+    /// With more than one process round n settles nothing that round n - 1 has not: if
+    /// nobody has decided by then, all but the last process have crashed.
+    #[test]
+    fn every_settling_round_of_runs_of_every_length_is_named() {
+        for n in [1, 2, 3, 7, 12] {
+            let settled_in = |rounds: u8| {
+                let latest = u64::from(rounds.min((n - 1).max(1)));
+                (1..=latest).map(move |settled| (settled, rounds))
+            };
+            let all: BTreeSet<_> = (1..=n).flat_map(settled_in).collect();
+            assert_eq!(recorded(settling_rounds_of, n).settled, all, "{n}");
+        }
+    }
+
+    #[test]
+    fn every_stored_ticket_is_run_and_settled() {
+        let mut comparison = Comparison::new(Simulator::new());
+        assert_eq!(stored(&mut comparison), Ok(()));
+        let counts = comparison.counts;
+        assert_eq!([counts.runs, counts.settlings], [corpus::STORED as u64; 2]);
+        assert!(counts.settled == counts.accepted && counts.accepted > 0, "{counts:?}");
     }
 
     #[test]

@@ -2,8 +2,8 @@
 //!
 //! - [`proved`]: the library's five functions.
 //! - [`comparison`]: one call or one ticket, given to both.
-//! - [`exhaustive`]: every small ticket, every count of a process, and every call
-//!   near a valid one.
+//! - [`exhaustive`]: the stored tickets, every small ticket, every count of a process,
+//!   every settling round, and every call near a valid one.
 //! - [`random`]: tickets and calls by chance.
 //! - [`shrink`]: the smallest ticket that shows a difference.
 

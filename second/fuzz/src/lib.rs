@@ -3,7 +3,7 @@
 use std::cell::RefCell;
 use std::slice;
 
-use second::interface::{refused, Agreement};
+use second::interface::Agreement;
 use second::Simulator;
 
 thread_local! {
@@ -17,28 +17,36 @@ fn with_second<T>(call: impl FnOnce(&mut Simulator) -> T) -> T {
 /// # Safety
 /// The pointers are not null and good for the lengths beside them.
 #[no_mangle]
-pub unsafe extern "C" fn second_run(ticket: *const u8, ticket_len: usize, output: *mut u8, output_len: usize) -> u64 {
-    let (ticket, output) = (slice::from_raw_parts(ticket, ticket_len), slice::from_raw_parts_mut(output, output_len));
+pub unsafe extern "C" fn second_run(
+    ticket: *const u8,
+    ticket_len: usize,
+    output: *mut u8,
+    output_len: usize,
+) -> u64 {
+    let (ticket, output) =
+        (slice::from_raw_parts(ticket, ticket_len), slice::from_raw_parts_mut(output, output_len));
     with_second(|second| Agreement::run(second, ticket, output))
 }
 
-/// Whether settling may answer so: a round that qualifies, or the refusal.
-///
 /// # Safety
 /// The pointer is not null and good for the length beside it.
 #[no_mangle]
-pub unsafe extern "C" fn second_settles(ticket: *const u8, ticket_len: usize, answer: u64) -> bool {
+pub unsafe extern "C" fn second_settle(ticket: *const u8, ticket_len: usize) -> u64 {
     let ticket = slice::from_raw_parts(ticket, ticket_len);
-    with_second(|second| match second.settling_rounds(ticket) {
-        Ok(rounds) => rounds.iter().any(|&round| u64::from(round) == answer),
-        Err(refusal) => refused(refusal) == answer,
-    })
+    with_second(|second| second.settle(ticket))
 }
 
 /// # Safety
 /// The pointer is not null and good for the length beside it.
 #[no_mangle]
-pub unsafe extern "C" fn second_start(process: u64, n: u64, t: u64, value: u32, state: *mut u8, state_len: usize) -> u64 {
+pub unsafe extern "C" fn second_start(
+    process: u64,
+    n: u64,
+    t: u64,
+    value: u32,
+    state: *mut u8,
+    state_len: usize,
+) -> u64 {
     let state = slice::from_raw_parts_mut(state, state_len);
     with_second(|second| second.start(process, n, t, value, state))
 }
@@ -46,15 +54,27 @@ pub unsafe extern "C" fn second_start(process: u64, n: u64, t: u64, value: u32, 
 /// # Safety
 /// The pointers are not null and good for the lengths beside them.
 #[no_mangle]
-pub unsafe extern "C" fn second_speak(state: *const u8, state_len: usize, output: *mut u8, output_len: usize) -> u64 {
-    let (state, output) = (slice::from_raw_parts(state, state_len), slice::from_raw_parts_mut(output, output_len));
+pub unsafe extern "C" fn second_speak(
+    state: *const u8,
+    state_len: usize,
+    output: *mut u8,
+    output_len: usize,
+) -> u64 {
+    let (state, output) =
+        (slice::from_raw_parts(state, state_len), slice::from_raw_parts_mut(output, output_len));
     with_second(|second| second.speak(state, output))
 }
 
 /// # Safety
 /// The pointers are not null and good for the lengths beside them.
 #[no_mangle]
-pub unsafe extern "C" fn second_close(state: *mut u8, state_len: usize, heard: *const u8, heard_len: usize) -> u64 {
-    let (state, heard) = (slice::from_raw_parts_mut(state, state_len), slice::from_raw_parts(heard, heard_len));
+pub unsafe extern "C" fn second_close(
+    state: *mut u8,
+    state_len: usize,
+    heard: *const u8,
+    heard_len: usize,
+) -> u64 {
+    let (state, heard) =
+        (slice::from_raw_parts_mut(state, state_len), slice::from_raw_parts(heard, heard_len));
     with_second(|second| second.close(state, heard))
 }

@@ -58,8 +58,21 @@ pub enum Claim {
     CountsThoseAbove,
     /// The run has a last round, and that round qualifies for settling.
     LastRoundSettles,
+    /// There is a settling round, and it is one of the run's: 1 to its rounds.
+    SettlingRoundIsOfRun,
+    /// There is a settling round, and it qualifies.
+    SettlingRoundQualifies,
+    /// No round before the settling round qualifies.
+    SettlingRoundIsLowest,
+    /// If a round qualifies for settling, so does every later one of the run.
+    StaysSettled,
+    /// None decides before the settling round.
+    NoneDecidesBeforeSettling,
+    /// What is decided is what each process that has not crashed holds, undecided or
+    /// decided, at the end of the settling round and of every later one of the run.
+    DecisionIsSettled,
     /// Without the failure lines that are idle the states after every round,
-    /// the counts, those of each process too, and f are the same.
+    /// the counts, those of each process too, f and the settling round are the same.
     IdleLinesChangeNothing,
     /// Case 7 without the failure lines that are idle is case 1, and so is case
     /// 1.
@@ -71,7 +84,7 @@ pub enum Claim {
 }
 
 /// All claims but those of the worked runs.
-pub const CLAIMS: [Claim; 22] = [
+pub const CLAIMS: [Claim; 28] = [
     Claim::Agreement,
     Claim::Validity,
     Claim::Termination,
@@ -91,6 +104,12 @@ pub const CLAIMS: [Claim; 22] = [
     Claim::CountsAddUp,
     Claim::CountsThoseAbove,
     Claim::LastRoundSettles,
+    Claim::SettlingRoundIsOfRun,
+    Claim::SettlingRoundQualifies,
+    Claim::SettlingRoundIsLowest,
+    Claim::StaysSettled,
+    Claim::NoneDecidesBeforeSettling,
+    Claim::DecisionIsSettled,
     Claim::IdleLinesChangeNothing,
     Claim::IdleLinesTakenOut,
     Claim::RefusesImpostors,
@@ -118,6 +137,12 @@ impl fmt::Display for Claim {
             Claim::CountsAddUp => write!(f, "counts by process add up"),
             Claim::CountsThoseAbove => write!(f, "counts by process are at most those above it"),
             Claim::LastRoundSettles => write!(f, "the last round settles"),
+            Claim::SettlingRoundIsOfRun => write!(f, "the settling round is one of the run's"),
+            Claim::SettlingRoundQualifies => write!(f, "the settling round qualifies"),
+            Claim::SettlingRoundIsLowest => write!(f, "no round before it qualifies"),
+            Claim::StaysSettled => write!(f, "once settled, every later round qualifies"),
+            Claim::NoneDecidesBeforeSettling => write!(f, "none decides before it"),
+            Claim::DecisionIsSettled => write!(f, "what is decided is held from then on"),
             Claim::IdleLinesChangeNothing => write!(f, "idle lines change nothing"),
             Claim::IdleLinesTakenOut => write!(f, "case 7 without its idle line is case 1"),
             Claim::RefusesImpostors => write!(f, "wrong ends are refused"),
@@ -195,10 +220,35 @@ impl Claim {
                 data <= most && commits <= most
             }),
             Claim::LastRoundSettles => run.settling_rounds(rules).contains(&run.counts.rounds),
+            Claim::SettlingRoundIsOfRun => {
+                named_is(run, rules, |named| 1 <= named && named <= run.counts.rounds)
+            }
+            Claim::SettlingRoundQualifies => {
+                named_is(run, rules, |named| run.settling_rounds(rules).contains(&named))
+            }
+            Claim::SettlingRoundIsLowest => settled_is(run, rules, |settled| {
+                let mut qualify = run.settling_rounds(rules).into_iter();
+                !qualify.any(|round| (rules.too_low_to_settle)(round, settled))
+            }),
+            Claim::StaysSettled => {
+                let qualify = run.settling_rounds(rules);
+                let settles = |round: &u8| (rules.settles_the_rest)(qualify.contains(round));
+                let first = (1..=run.counts.rounds).find(settles);
+                let last = (rules.settled_up_to)(run.counts.rounds);
+                first.is_none_or(|first| (first..=last).all(|round| qualify.contains(&round)))
+            }
+            Claim::NoneDecidesBeforeSettling => settled_is(run, rules, |settled| {
+                decisions(run).all(|(round, _)| (rules.may_decide)(round, settled))
+            }),
+            Claim::DecisionIsSettled => settled_is(run, rules, |settled| {
+                let mut rounds = (rules.decision_held_from)(settled)..=run.counts.rounds;
+                rounds.all(|round| decisions(run).all(|(_, value)| all_hold(value, round, run)))
+            }),
             Claim::IdleLinesChangeNothing => {
                 let other = Run::new(&without_idle(ticket, run, rules), rules);
                 (&other.history, other.counts, &other.shown, other.f)
                     == (&run.history, run.counts, &run.shown, run.f)
+                    && other.settling_round(rules) == run.settling_round(rules)
             }
             Claim::NoLater
             | Claim::IdleLinesTakenOut
@@ -206,6 +256,22 @@ impl Claim {
             | Claim::WorkedRun(_) => true,
         }
     }
+}
+
+/// Whether there is a settling round and a claim holds of it.
+fn named_is(run: &Run, rules: &Rules, holds: impl Fn(u8) -> bool) -> bool {
+    run.settling_round(rules).is_some_and(holds)
+}
+
+/// Whether a claim holds of the settling round, if there is one.
+fn settled_is(run: &Run, rules: &Rules, holds: impl Fn(u8) -> bool) -> bool {
+    run.settling_round(rules).is_none_or(holds)
+}
+
+/// Whether each process holds `value` at the end of a round, unless it has crashed.
+fn all_hold(value: u32, round: u8, run: &Run) -> bool {
+    let mut held = run.history[usize::from(round)].iter().map(|&state| right::value_held(state));
+    held.all(|held| held.is_none_or(|held| held == value))
 }
 
 /// Whether none decides after round `latest`.
@@ -319,6 +385,8 @@ pub struct Answer {
     pub limits: (u8, u64, u64),
     /// The rounds that qualify for settling.
     pub settling_rounds: Vec<u8>,
+    /// The one that is named.
+    pub settling_round: Option<u8>,
 }
 
 /// What the model answers under `rules`.
@@ -331,6 +399,7 @@ pub fn answer(ticket: &Ticket, rules: &Rules) -> Answer {
         shown: run.shown.clone(),
         limits: ((rules.latest)(run.f), (rules.most_messages)(&run), (rules.most_commits)(&run)),
         settling_rounds: run.settling_rounds(rules),
+        settling_round: run.settling_round(rules),
     }
 }
 
@@ -347,9 +416,15 @@ pub fn answer_of_simulation(ticket: &Ticket) -> Answer {
     let shown = carried.map(|count| (count.data.into(), count.commits.into())).collect();
     let counts =
         Counts { rounds, speakers: speakers.into(), data: data.into(), commits: commits.into() };
-    let settling_rounds = Simulator::new().settling_rounds(&ticket.text());
-    let settling_rounds = settling_rounds.expect("an accepted ticket");
+    let (text, mut simulator) = (ticket.text(), Simulator::new());
     let most_messages = right::bound_by_speakers(ticket.n, counts.speakers);
-    let limits = (crashes + 1, most_messages, u64::from(ticket.n) - counts.speakers);
-    Answer { ends: ends.collect(), f: crashes, counts, shown, limits, settling_rounds }
+    Answer {
+        ends: ends.collect(),
+        f: crashes,
+        counts,
+        shown,
+        limits: (crashes + 1, most_messages, u64::from(ticket.n) - counts.speakers),
+        settling_rounds: simulator.settling_rounds(&text).expect("an accepted ticket"),
+        settling_round: simulator.settling_round(&text).ok(),
+    }
 }

@@ -355,15 +355,25 @@ impl Run {
     pub fn settling_rounds(&self, rules: &Rules) -> Vec<u8> {
         let last = self.last_round();
         let one_value = |&round: &u8| {
-            let states = &self.history[usize::from((rules.settled_at_end_of)(round))];
-            let processes = states.iter().zip(self.faults.iter().zip(self.ends()));
-            let held = processes.filter_map(|(&state, (&fault, &end))| {
-                (rules.value_held)(state, counts_in_f(fault, end, rules))
-            });
-            (rules.one_value)(&held.collect::<Vec<_>>())
+            (rules.one_value)(&self.values_held((rules.settled_at_end_of)(round), rules))
         };
         let may_settle = |&round: &u8| (rules.may_settle)(round, self.counts.rounds, last);
         (0..=last).filter(may_settle).filter(one_value).collect()
+    }
+
+    /// The values held for settling at the end of a round.
+    fn values_held(&self, round: u8, rules: &Rules) -> Vec<u32> {
+        let states = &self.history[usize::from(round)];
+        let processes = states.iter().zip(self.faults.iter().zip(self.ends()));
+        let held = processes.filter_map(|(&state, (&fault, &end))| {
+            (rules.value_held)(state, counts_in_f(fault, end, rules))
+        });
+        held.collect()
+    }
+
+    /// The settling round, if there is one.
+    pub fn settling_round(&self, rules: &Rules) -> Option<u8> {
+        (rules.settling_round)(self, &self.settling_rounds(rules))
     }
 }
 

@@ -71,6 +71,8 @@ pub struct Rules {
     pub value_held: fn(State, crashes: bool) -> Option<u32>,
     /// Whether the values held are one.
     pub one_value: fn(&[u32]) -> bool,
+    /// The round that settling names, from the rounds that qualify, in order.
+    pub settling_round: fn(&Run, qualify: &[u8]) -> Option<u8>,
 
     /// Claim: whether a process that decides is held to agreement, from whether
     /// it has a failure line.
@@ -100,6 +102,18 @@ pub struct Rules {
     pub most_of_process: fn(n: u8, process: u8) -> u64,
     /// Claim: the process whose counts are the first of the sums.
     pub summed_from: u8,
+    /// Claim: whether a round may not qualify, from the settling round.
+    pub too_low_to_settle: fn(round: u8, settled: u8) -> bool,
+    /// Claim: whether after a round all others of the run qualify, from whether it
+    /// does.
+    pub settles_the_rest: fn(qualifies: bool) -> bool,
+    /// Claim: the last round that qualifies then, from the run's rounds.
+    pub settled_up_to: fn(rounds: u8) -> u8,
+    /// Claim: whether a process may decide in a round, from the settling round.
+    pub may_decide: fn(round: u8, settled: u8) -> bool,
+    /// Claim: the first round at whose end all hold what is decided, from the settling
+    /// round.
+    pub decision_held_from: fn(settled: u8) -> u8,
     /// Claim: whether a failure line is left in the ticket without idle lines,
     /// from whether it is idle.
     pub line_left: fn(idle: bool) -> bool,
@@ -117,7 +131,8 @@ pub struct Rules {
     pub alike: fn(first: u32, second: u32) -> bool,
 }
 
-/// The right rules (01, "The ticket" and "A round"; demand 3; 02, Papers 2 and 4).
+/// The right rules (01, "The ticket" and "A round"; demand 3; 02, Papers 2, 4
+/// and 6).
 pub const RIGHT: Rules = Rules {
     most_failures: |t| t,
     commit_step_in: |process, round| process == round,
@@ -147,6 +162,7 @@ pub const RIGHT: Rules = Rules {
     settled_at_end_of: |round| round,
     value_held: |state, _| right::value_held(state),
     one_value: |values| values.iter().all(|value| *value == values[0]),
+    settling_round: |_, qualify| qualify.iter().copied().find(|&round| 1 <= round),
     agrees: |_| true,
     is_of_run: |round, rounds| round <= rounds,
     latest: |f| f + 1,
@@ -160,6 +176,11 @@ pub const RIGHT: Rules = Rules {
     sends_after: |process| process - 1,
     most_of_process: |n, process| u64::from(n - process),
     summed_from: 1,
+    too_low_to_settle: |round, settled| round < settled,
+    settles_the_rest: |qualifies| qualifies,
+    settled_up_to: |rounds| rounds,
+    may_decide: |round, settled| settled <= round,
+    decision_held_from: |settled| settled,
     line_left: |idle| !idle,
     counts_paired: |first, second| first <= second,
     line_in_one: |first, second| right::is_commit_line(first) && second.is_none(),

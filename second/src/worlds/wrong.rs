@@ -1,16 +1,16 @@
 //! The wrong worlds, by the names of the gate's edits or in words.
 
 use super::claims::Claim::{self, *};
-use super::model::{Addressee, Heard, Kind, Reach, Sending, State};
+use super::model::{Addressee, Heard, Kind, Reach, Run, Sending, State};
 use super::rules::{right, Rules, RIGHT};
 use super::World;
 use crate::ticket::Crash;
 
 /// Every wrong world.
 pub fn worlds() -> impl Iterator<Item = &'static World> {
-    [PATTERNS, ROUNDS, MISTAKES, IMPOSTORS, COUNTS, CARRIED, SHOWN, SETTLING, CLAIMED, PAIRED]
-        .into_iter()
-        .flatten()
+    let of_rounds = [PATTERNS, ROUNDS, MISTAKES, IMPOSTORS];
+    let of_answers = [COUNTS, CARRIED, SHOWN, SETTLING, NAMED];
+    of_rounds.into_iter().chain(of_answers).chain([CLAIMED, PAIRED]).flatten()
 }
 
 const fn world(name: &'static str, breaks: &'static [Claim], rules: Rules) -> World {
@@ -21,7 +21,7 @@ const fn world(name: &'static str, breaks: &'static [Claim], rules: Rules) -> Wo
 const PATTERNS: &[World] = &[
     world(
         "consensus/one-crash-too-many",
-        &[Termination, LastRoundSettles],
+        &[Termination, LastRoundSettles, SettlingRoundIsOfRun, SettlingRoundQualifies],
         Rules { most_failures: |t| t + 1, ..RIGHT },
     ),
     world(
@@ -47,7 +47,15 @@ const PATTERNS: &[World] = &[
 const ROUNDS: &[World] = &[
     world(
         "coordinator/adopts-a-value-nobody-proposed",
-        &[Validity, Agreement, NoLater, LastRoundSettles],
+        &[
+            Validity,
+            Agreement,
+            NoLater,
+            LastRoundSettles,
+            SettlingRoundIsOfRun,
+            SettlingRoundQualifies,
+            NoneDecidesBeforeSettling,
+        ],
         Rules {
             receives: |step| match step.heard {
                 Heard::Estimate(_) => State::Undecided(0),
@@ -58,7 +66,15 @@ const ROUNDS: &[World] = &[
     ),
     world(
         "coordinator/commits-leave-before-the-data",
-        &[Agreement, NoLater, CountsBySets, LastRoundSettles],
+        &[
+            Agreement,
+            NoLater,
+            CountsBySets,
+            LastRoundSettles,
+            SettlingRoundIsOfRun,
+            SettlingRoundQualifies,
+            NoneDecidesBeforeSettling,
+        ],
         Rules {
             reach_of_crashing: |sending, crash, to| match right::reach_of_crashing(
                 sending, crash, to,
@@ -92,7 +108,15 @@ const ROUNDS: &[World] = &[
     ),
     world(
         "coordinator/decides-in-the-round-of-its-crash",
-        &[Agreement, CrashesAsSaid, CountsCrashed, LastRoundSettles],
+        &[
+            Agreement,
+            CrashesAsSaid,
+            CountsCrashed,
+            LastRoundSettles,
+            SettlingRoundIsOfRun,
+            SettlingRoundQualifies,
+            NoneDecidesBeforeSettling,
+        ],
         Rules { crashes: |step| step.decides(step.estimate), ..RIGHT },
     ),
     // The commits still go downward, so that no claim about all tickets fails.
@@ -108,7 +132,7 @@ const ROUNDS: &[World] = &[
     ),
     world(
         "coordinator/one-round-too-few",
-        &[Termination, LastRoundSettles],
+        &[Termination, LastRoundSettles, SettlingRoundIsOfRun, SettlingRoundQualifies],
         Rules { last_round: |t| t, ..RIGHT },
     ),
 ];
@@ -127,7 +151,15 @@ const MISTAKES: &[World] = &[
     ),
     world(
         "coordinator/decides-on-data-alone",
-        &[Agreement, Termination, EarlyDecision, LastRoundSettles],
+        &[
+            Agreement,
+            Termination,
+            EarlyDecision,
+            LastRoundSettles,
+            SettlingRoundIsOfRun,
+            SettlingRoundQualifies,
+            NoneDecidesBeforeSettling,
+        ],
         Rules {
             receives: |step| match step.heard {
                 Heard::Estimate(value) => step.decides(value),
@@ -159,7 +191,15 @@ const MISTAKES: &[World] = &[
     ),
     world(
         "one that crashes in a round goes through it",
-        &[Agreement, CrashesAsSaid, CountsCrashed, LastRoundSettles],
+        &[
+            Agreement,
+            CrashesAsSaid,
+            CountsCrashed,
+            LastRoundSettles,
+            SettlingRoundIsOfRun,
+            SettlingRoundQualifies,
+            NoneDecidesBeforeSettling,
+        ],
         Rules { crashes: right::receives, ..RIGHT },
     ),
 ];
@@ -188,7 +228,7 @@ fn above(set: u64, process: u8) -> u8 {
 const IMPOSTORS: &[World] = &[
     world(
         "round 1 is run and the rest marked decided",
-        &[Agreement, LastRoundSettles],
+        &[Agreement, LastRoundSettles, SettlingRoundIsOfRun, SettlingRoundQualifies],
         Rules {
             receives: |step| match right::receives(step) {
                 State::Undecided(value) => step.decides(value),
@@ -199,12 +239,25 @@ const IMPOSTORS: &[World] = &[
     ),
     world(
         "round 1 alone is run",
-        &[Termination, CrashesAsSaid, CountsCrashed, LastRoundSettles],
+        &[
+            Termination,
+            CrashesAsSaid,
+            CountsCrashed,
+            LastRoundSettles,
+            SettlingRoundIsOfRun,
+            SettlingRoundQualifies,
+        ],
         Rules { last_round: |_| 1, ..RIGHT },
     ),
     world(
         "the run is over before round 1",
-        &[Agreement, LastRoundSettles, IdleLinesTakenOut],
+        &[
+            Agreement,
+            LastRoundSettles,
+            SettlingRoundIsOfRun,
+            SettlingRoundQualifies,
+            IdleLinesTakenOut,
+        ],
         Rules { initial: |proposal| State::Decided(0, proposal), ..RIGHT },
     ),
     world(
@@ -214,7 +267,7 @@ const IMPOSTORS: &[World] = &[
     ),
     world(
         "one that hears nothing decides the coordinator's value",
-        &[Agreement, Validity, NoLater, LastRoundSettles],
+        &[Agreement, Validity, NoLater, LastRoundSettles, StaysSettled, DecisionIsSettled],
         Rules {
             hears: |reach, coordinator| match right::hears(reach, coordinator) {
                 Heard::Nothing => Heard::EstimateAndCommit(value_or_zero(coordinator)),
@@ -225,7 +278,16 @@ const IMPOSTORS: &[World] = &[
     ),
     world(
         "the coordinator decides 0",
-        &[Validity, Agreement, NoLater, LastRoundSettles],
+        &[
+            Validity,
+            Agreement,
+            NoLater,
+            LastRoundSettles,
+            SettlingRoundIsOfRun,
+            SettlingRoundQualifies,
+            StaysSettled,
+            DecisionIsSettled,
+        ],
         Rules {
             receives: |step| {
                 if step.coordinates() {
@@ -239,7 +301,7 @@ const IMPOSTORS: &[World] = &[
     ),
     world(
         "a crashed coordinator sends 0",
-        &[Validity, Agreement, NoLater, LastRoundSettles],
+        &[Validity, Agreement, NoLater, LastRoundSettles, StaysSettled, DecisionIsSettled],
         Rules {
             hears: |reach, coordinator| match coordinator {
                 State::Crashed(_) => right::hears(reach, State::Undecided(0)),
@@ -258,6 +320,9 @@ const IMPOSTORS: &[World] = &[
             CountsBySets,
             CountsOwnRound,
             LastRoundSettles,
+            SettlingRoundIsOfRun,
+            SettlingRoundQualifies,
+            NoneDecidesBeforeSettling,
         ],
         Rules { coordinator: |_, n| n, ..RIGHT },
     ),
@@ -272,6 +337,8 @@ const IMPOSTORS: &[World] = &[
             CountsBySets,
             CountsOwnRound,
             LastRoundSettles,
+            SettlingRoundIsOfRun,
+            SettlingRoundQualifies,
         ],
         Rules { round_run: |_| 1, ..RIGHT },
     ),
@@ -343,12 +410,12 @@ const COUNTS: &[World] = &[
     ),
     world(
         "rounds are not counted",
-        &[CountsRounds, LastRoundSettles],
+        &[CountsRounds, LastRoundSettles, SettlingRoundIsOfRun, SettlingRoundQualifies],
         Rules { round_counts: |_, _, _| false, ..RIGHT },
     ),
     world(
         "coordinator/rounds-without-counted-data-left-out",
-        &[CountsRounds, LastRoundSettles],
+        &[CountsRounds, LastRoundSettles, SettlingRoundIsOfRun, SettlingRoundQualifies],
         Rules { round_counts: |_, _, data| data > 0, ..RIGHT },
     ),
     world(
@@ -538,49 +605,31 @@ fn has_decided(state: State) -> bool {
 const SETTLING: &[World] = &[
     world(
         "coordinator/crashed-processes-hold-values",
-        &[LastRoundSettles],
-        Rules {
-            value_held: |state, _| match state {
-                State::Crashed(round) => Some(u32::from(round)),
-                _ => right::value_held(state),
-            },
-            ..RIGHT
-        },
+        &[LastRoundSettles, SettlingRoundIsOfRun, SettlingRoundQualifies],
+        CRASHED_HOLD_VALUES,
     ),
     world(
         "coordinator/settled-as-the-round-begins",
-        &[LastRoundSettles],
-        Rules { settled_at_end_of: |round| round.saturating_sub(1), ..RIGHT },
+        &[
+            LastRoundSettles,
+            SettlingRoundIsOfRun,
+            SettlingRoundQualifies,
+            NoneDecidesBeforeSettling,
+        ],
+        SETTLED_AS_THE_ROUND_BEGINS,
     ),
     world(
         "coordinator/every-round-settles",
-        &[WorkedRun("case 5")],
+        &[DecisionIsSettled],
         Rules { one_value: |_| true, ..RIGHT },
     ),
-    world(
-        "coordinator/settled-by-the-decided-alone",
-        &[WorkedRun("case 5")],
-        Rules {
-            value_held: |state, _| match state {
-                State::Decided(_, value) => Some(value),
-                State::Undecided(_) | State::Crashed(_) => None,
-            },
-            ..RIGHT
-        },
-    ),
+    world("coordinator/settled-by-the-decided-alone", &[DecisionIsSettled], SETTLED_BY_THE_DECIDED),
     world(
         "coordinator/settled-by-who-never-crashes",
-        &[WorkedRun("one crashes later")],
-        Rules {
-            value_held: |state, crashes| right::value_held(state).filter(|_| !crashes),
-            ..RIGHT
-        },
+        &[StaysSettled, DecisionIsSettled],
+        SETTLED_BY_WHO_NEVER_CRASHES,
     ),
-    world(
-        "coordinator/round-0-settles",
-        &[WorkedRun("case 2")],
-        Rules { may_settle: |round, rounds, _| round <= rounds, ..RIGHT },
-    ),
+    world("coordinator/round-0-settles", &[SettlingRoundIsLowest], ROUND_0_SETTLES),
     world(
         "coordinator/settles-after-the-end",
         &[WorkedRun("case 1")],
@@ -588,10 +637,141 @@ const SETTLING: &[World] = &[
     ),
     world(
         "formats/only-the-last-round-settles",
-        &[WorkedRun("case 1")],
+        &[NoneDecidesBeforeSettling],
         Rules { may_settle: |round, rounds, _| round == rounds, ..RIGHT },
     ),
 ];
+
+const CRASHED_HOLD_VALUES: Rules = Rules {
+    value_held: |state, _| match state {
+        State::Crashed(round) => Some(u32::from(round)),
+        _ => right::value_held(state),
+    },
+    ..RIGHT
+};
+
+const SETTLED_AS_THE_ROUND_BEGINS: Rules =
+    Rules { settled_at_end_of: |round| round.saturating_sub(1), ..RIGHT };
+
+const SETTLED_BY_THE_DECIDED: Rules = Rules {
+    value_held: |state, _| match state {
+        State::Decided(_, value) => Some(value),
+        State::Undecided(_) | State::Crashed(_) => None,
+    },
+    ..RIGHT
+};
+
+const SETTLED_BY_WHO_NEVER_CRASHES: Rules =
+    Rules { value_held: |state, crashes| right::value_held(state).filter(|_| !crashes), ..RIGHT };
+
+const ROUND_0_SETTLES: Rules = Rules { may_settle: |round, rounds, _| round <= rounds, ..RIGHT };
+
+/// Other rounds named, of those that qualify by the right rules or of others (02,
+/// Paper 6).
+const NAMED: &[World] = &[
+    world(
+        "coordinator/last-that-qualifies-named",
+        &[SettlingRoundIsLowest, NoneDecidesBeforeSettling],
+        Rules { settling_round: |run, _| Some(run.counts.rounds), ..RIGHT },
+    ),
+    world(
+        "coordinator/named-one-round-late",
+        &[
+            SettlingRoundIsLowest,
+            SettlingRoundIsOfRun,
+            SettlingRoundQualifies,
+            NoneDecidesBeforeSettling,
+        ],
+        Rules { settling_round: |_, qualify| Some(qualify.first()? + 1), ..RIGHT },
+    ),
+    world(
+        "coordinator/round-1-never-named",
+        &[
+            SettlingRoundIsLowest,
+            SettlingRoundIsOfRun,
+            SettlingRoundQualifies,
+            NoneDecidesBeforeSettling,
+        ],
+        Rules {
+            settling_round: |run, qualify| {
+                let mut later = qualify.iter().copied().filter(|&round| round >= 2);
+                later.next().or(Some(run.last_round() + 2))
+            },
+            ..RIGHT
+        },
+    ),
+    world(
+        "coordinator/round-0-named",
+        &[SettlingRoundIsOfRun],
+        Rules { settling_round: |_, qualify| qualify.first().copied(), ..ROUND_0_SETTLES },
+    ),
+    world(
+        "coordinator/first-decision-named",
+        &[SettlingRoundIsLowest],
+        Rules { settling_round: |run, _| first_decision(run), ..RIGHT },
+    ),
+    world(
+        "coordinator/silent-rounds-do-not-settle",
+        &[
+            SettlingRoundIsLowest,
+            SettlingRoundIsOfRun,
+            SettlingRoundQualifies,
+            NoneDecidesBeforeSettling,
+        ],
+        Rules {
+            settling_round: |run, qualify| {
+                let has_data = |round: &u8| run.counted(*round, &RIGHT).0 >= 1;
+                qualify.iter().copied().find(has_data).or(Some(run.last_round() + 1))
+            },
+            ..RIGHT
+        },
+    ),
+    world(
+        "the first round that begins with one value is named",
+        &[
+            SettlingRoundIsLowest,
+            SettlingRoundIsOfRun,
+            SettlingRoundQualifies,
+            NoneDecidesBeforeSettling,
+        ],
+        Rules {
+            settling_round: |run, _| run.settling_round(&SETTLED_AS_THE_ROUND_BEGINS),
+            ..RIGHT
+        },
+    ),
+    world(
+        "the first round is named at whose end the crashed hold that value too",
+        &[SettlingRoundQualifies, SettlingRoundIsOfRun],
+        Rules { settling_round: |run, _| run.settling_round(&CRASHED_HOLD_VALUES), ..RIGHT },
+    ),
+    world(
+        "the first round is named at whose end the decided hold one value",
+        &[SettlingRoundQualifies, DecisionIsSettled],
+        Rules { settling_round: |run, _| run.settling_round(&SETTLED_BY_THE_DECIDED), ..RIGHT },
+    ),
+    world(
+        "the first round is named at whose end those hold one value that never crash",
+        &[SettlingRoundQualifies, DecisionIsSettled],
+        Rules {
+            settling_round: |run, _| run.settling_round(&SETTLED_BY_WHO_NEVER_CRASHES),
+            ..RIGHT
+        },
+    ),
+    world(
+        "round 0 is named, though it does not qualify, if all propose one value",
+        &[SettlingRoundIsOfRun, SettlingRoundQualifies],
+        Rules {
+            settling_round: |run, _| run.settling_rounds(&ROUND_0_SETTLES).first().copied(),
+            ..RIGHT
+        },
+    ),
+];
+
+/// The first round in which a process decides.
+fn first_decision(run: &Run) -> Option<u8> {
+    let decided = |states: &Vec<State>| states.iter().any(|&state| has_decided(state));
+    (0..).zip(&run.history).find(|(_, states)| decided(states)).map(|(round, _)| round)
+}
 
 /// Other claims of the right runs.
 const CLAIMED: &[World] = &[
@@ -666,6 +846,31 @@ const CLAIMED: &[World] = &[
         "coordinator/one-message-fewer-than-processes-above",
         &[CountsThoseAbove],
         Rules { most_of_process: |n, process| u64::from(n - process).saturating_sub(1), ..RIGHT },
+    ),
+    world(
+        "coordinator/no-round-up-to-the-named-qualifies",
+        &[SettlingRoundIsLowest],
+        Rules { too_low_to_settle: |round, settled| round <= settled, ..RIGHT },
+    ),
+    world(
+        "coordinator/rounds-qualify-after-the-end",
+        &[StaysSettled],
+        Rules { settled_up_to: |rounds| rounds + 1, ..RIGHT },
+    ),
+    world(
+        "coordinator/every-round-of-the-run-qualifies",
+        &[StaysSettled],
+        Rules { settles_the_rest: |_| true, ..RIGHT },
+    ),
+    world(
+        "coordinator/nobody-decides-in-the-settling-round",
+        &[NoneDecidesBeforeSettling],
+        Rules { may_decide: |round, settled| settled < round, ..RIGHT },
+    ),
+    world(
+        "coordinator/decision-held-by-all-from-round-1",
+        &[DecisionIsSettled],
+        Rules { decision_held_from: |_| 1, ..RIGHT },
     ),
     world(
         "coordinator/every-line-taken-out",

@@ -1,5 +1,5 @@
-//! As much of JSON as the vectors use: flat objects of strings, whole numbers,
-//! lists of whole numbers and null, one object to a line.
+//! As much of JSON as the vectors use: objects of strings, whole numbers, lists of
+//! whole numbers, null and such objects, one object to a line.
 
 use std::collections::BTreeMap;
 use std::iter::Peekable;
@@ -11,26 +11,20 @@ pub enum Value {
     Text(String),
     Number(u64),
     List(Vec<u64>),
+    Object(Object),
     Null,
 }
 
 /// An object by its members' names.
-#[derive(Clone, Debug)]
+#[derive(Clone, Debug, PartialEq)]
 pub struct Object(BTreeMap<String, Value>);
 
 impl Object {
     /// Reads one object; panics where the text is something else.
     pub fn parse(line: &str) -> Object {
         let mut reader = Reader(line.chars().peekable());
-        let mut members = BTreeMap::new();
         reader.expect('{');
-        while !reader.accept('}') {
-            let name = reader.string();
-            reader.expect(':');
-            members.insert(name, reader.value());
-            reader.accept(',');
-        }
-        Object(members)
+        reader.members()
     }
 
     pub fn has(&self, name: &str) -> bool {
@@ -60,6 +54,13 @@ impl Object {
         match &self.0[name] {
             Value::List(list) => list,
             other => panic!("{name} is no list: {other:?}"),
+        }
+    }
+
+    pub fn object(&self, name: &str) -> &Object {
+        match &self.0[name] {
+            Value::Object(object) => object,
+            other => panic!("{name} is no object: {other:?}"),
         }
     }
 
@@ -94,7 +95,22 @@ impl Reader<'_> {
         assert!(self.accept(wanted), "no {wanted:?} before {:?}", self.0.peek());
     }
 
+    /// The members of an object, behind its opening brace.
+    fn members(&mut self) -> Object {
+        let mut members = BTreeMap::new();
+        while !self.accept('}') {
+            let name = self.string();
+            self.expect(':');
+            members.insert(name, self.value());
+            self.accept(',');
+        }
+        Object(members)
+    }
+
     fn value(&mut self) -> Value {
+        if self.accept('{') {
+            return Value::Object(self.members());
+        }
         if self.accept('[') {
             let mut list = Vec::new();
             while !self.accept(']') {

@@ -6,7 +6,7 @@ use Rattle.formats.specs.Reading.{accepted}
 use Rattle.formats.specs.Ticket.{readTicket}
 use Rattle.formats.proofs.WellFormed.{accepted-well-formed}
 use Rattle.ticket.proofs.ReadAs.{read-refused, read-accepted}
-use Rattle.running.proofs.Answers.{settles-refused, settles-last}
+use Rattle.running.proofs.Answers.{settled-in, settle-refused}
 use Rattle.running.proofs.settle.Statement.{statement}
 use Rattle.running.proofs.settle.Tie as tie
 
@@ -19,7 +19,7 @@ enum-known-answer c = search needs
 returns : tie.Need-returns
 returns c =
     let read = c .before .before .before .read in
-    settles-refused _ _ _ (read-refused _ _ _ (read .ensures) _ _ (c .before .answer .given .1))
+    settle-refused _ _ _ (read-refused _ _ _ (read .ensures) _ _ (c .before .answer .given .1))
 
 enum-told : tie.Need-enum-told
 enum-told c = search needs
@@ -39,7 +39,7 @@ run-all-requires : tie.Need-run-all-requires
 run-all-requires c κs = (accepted-well-formed _ _ (ticket-read (before-lending (c .before .before))), (refl, refl))
 
 returns-2 : tie.Need-returns-2
-returns-2 c = settles-last _ _ (c .run-all .result) (ticket-read (before-lending (c .before .before .before))) (c .run-all .ensures .run)
+returns-2 c = settled-in _ _ (c .run-all .result) _ _ (ticket-read (before-lending (c .before .before .before))) (c .run-all .ensures)
 
 pub settle-spec : {M : Type 1} → statement M
 settle-spec =

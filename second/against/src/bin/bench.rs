@@ -57,10 +57,21 @@ fn sixty_four(t: u8, crashing: u8, how: impl Fn(u8) -> Failure) -> Ticket {
     }
 }
 
-/// The tickets that are timed.
+/// 64 processes, of which the first `crashing` crash in their own rounds before they
+/// send anything.
+fn silent(crashing: u8) -> Ticket {
+    sixty_four(63, crashing, |process| Failure::before_sending(process, process))
+}
+
+/// 64 processes, of which 63 crash in their own rounds after all their data.
+fn without_commits() -> Ticket {
+    sixty_four(63, 63, |process| Failure::sending_commits(process, 0))
+}
+
+/// The tickets that are run.
 fn tickets() -> Vec<(&'static str, Vec<u8>)> {
     let typical = sixty_four(31, 2, |process| Failure::sending_data(process, 1 << 63));
-    let worst = sixty_four(63, 63, |process| Failure::sending_commits(process, 0));
+    let worst = without_commits();
     let mut early = typical.text();
     early[0] = b'x';
     let mut late = worst.text();
@@ -71,19 +82,44 @@ fn tickets() -> Vec<(&'static str, Vec<u8>)> {
         ("typical: n 64, 2 crashes", typical.text()),
         ("the same in small letters", typical.text().to_ascii_lowercase()),
         ("worst: n 64, t 63, 63 crashes", worst.text()),
+        ("the same, but nothing is sent", silent(63).text()),
         ("damaged: refused at line 1", early),
         ("damaged: refused at line 129", late),
     ]
 }
 
+/// The tickets that are settled: in round 1 of 2, of 1, and of 64; in round 63 of 64,
+/// at whose end one process is up; and none.
+fn settled_tickets() -> Vec<(&'static str, Vec<u8>)> {
+    let mut refused = silent(63).text();
+    refused[0] = b'x';
+    vec![
+        ("n 4, case 1: round 1", worked::case(1).text()),
+        ("n 64, no crash: round 1", silent(0).text()),
+        ("n 64, 63 crashes: round 1", without_commits().text()),
+        ("n 64, nothing sent: round 63", silent(63).text()),
+        ("refused at line 1", refused),
+    ]
+}
+
 fn time_tickets(time: Duration) {
     println!("{:<32}{:>14}{:>14}{:>8}", "tickets per second", "proved", "second", "ratio");
+    let row = |name: &str, [proved, second]: [f64; 2]| {
+        println!("{name:<32}{proved:>14.0}{second:>14.0}{:>8.2}", proved / second);
+    };
     for (name, text) in tickets() {
         let mut output = [0; LONGEST_RESULT];
-        let [proved, second] = rates(time, |module| {
+        let run = |module: &mut dyn Agreement| {
             black_box(module.run(black_box(&text), black_box(&mut output)));
-        });
-        println!("{name:<32}{proved:>14.0}{second:>14.0}{:>8.2}", proved / second);
+        };
+        row(name, rates(time, run));
+    }
+    println!("settled, per second");
+    for (name, text) in settled_tickets() {
+        let settle = |module: &mut dyn Agreement| {
+            black_box(module.settle(black_box(&text)));
+        };
+        row(name, rates(time, settle));
     }
 }
 

@@ -1,10 +1,10 @@
 //! Compares the proved library with the second implementation.
 //!
-//! `compare [--short] [--seed NUMBER] [--count NUMBER]`: everything small, every
-//! byte at every place of a ticket, every count of a process, and then `count`
-//! random tickets with calls of start, speak and close. The last line says what
-//! was compared; a difference is shown by the smallest ticket that could be found,
-//! and the exit status is 1.
+//! `compare [--short] [--seed NUMBER] [--count NUMBER]`: the stored tickets,
+//! everything small, every byte at every place of a ticket, every count of a process,
+//! every settling round, and then `count` random tickets with calls of start, speak
+//! and close. The last line says what was compared; a difference is shown by the
+//! smallest ticket that could be found, and the exit status is 1.
 
 use std::env;
 use std::process::ExitCode;
@@ -51,11 +51,13 @@ fn compare(
         let mut rng = Rng::new(seed);
         (0..count).try_for_each(|_| random::ticket_and_calls(comparison, &mut rng))
     };
-    let parts: [Part; 7] = [
+    let parts: [Part; 9] = [
+        ("every stored ticket", &exhaustive::stored),
         ("every ticket of up to 4 processes", &exhaustive::tickets),
         ("every byte at every place of a ticket", &exhaustive::bytes),
         ("every output length for each n", &exhaustive::rooms),
         ("every count of every process for each n", &exhaustive::counts),
+        ("every settling round for each n", &exhaustive::settling_rounds),
         ("every start near the limits", &exhaustive::starts),
         ("speak and close near the limits", &exhaustive::states),
         ("random tickets and calls", &random_part),
@@ -123,8 +125,8 @@ fn main() -> ExitCode {
     match result {
         Ok(()) => {
             println!(
-                "no difference: every ticket with n <= 4 and {count} random ones of seed {seed}, \
-                 up to n = 64, well formed and damaged; in all {counts}"
+                "no difference: the stored tickets, every ticket with n <= 4 and {count} random \
+                 ones of seed {seed}, up to n = 64, well formed and damaged; in all {counts}"
             );
             ExitCode::SUCCESS
         }
