@@ -1,14 +1,15 @@
 # make                        prove every crate, build the programs, the C library and the examples
 # make run TICKET=FILE        run one ticket
-# make explain TICKET=FILE    what it is answered, in words: the run round by round, or why it is refused
+# make explain TICKET=FILE    what it is answered, in words: the run round by round, what each process heard and why it stands where it
+#                             does, or why the ticket is refused. PROCESS=P and ROUND=R: of that process, and of that round, alone
 # make picture TICKET=FILE    the same as a picture, in target/pictures/ or PICTURE=FILE
 # make test                   everything from nothing: proofs, must-fail edits, programs, and the evidence beyond the proofs
 # make vectors                compute the definitions on every vector of tests/vectors/
 # make vectors-part           the same on a part that has every kind of vector
 # make library-test           the compiled library on every vector of tests/vectors/
-# make host-test              simulate and examples/host on every ticket of tests/vectors/, examples/frames on those of Papers 2 and 4, examples/report on those of Paper 6, and what cannot be read or written
+# make host-test              simulate and examples/host on every ticket of tests/vectors/, examples/frames on those of Papers 2 and 4, examples/report on those of Paper 6, examples/reasons on those of Paper 7, and what cannot be read or written
 # make interface-test         the header's prototypes against the library's, and docs/FORMATS.md against the header
-# make show-test              explain and picture on every ticket of tests/vectors/, the settling round as the library answers it
+# make show-test              explain and picture on every ticket of tests/vectors/, the settling round and the reasons as the library answers them
 # make second-test            the second implementation's own tests
 # make wrong-worlds           wrong rules of the protocol, and a counterexample to each claim that fails under them
 # make unused                 list definitions, lemmas and imports that nothing uses, and edits that docs/COVERAGE.md names and that are not there
@@ -16,7 +17,7 @@
 # make bench                  speed of the proved library beside the second implementation, which goes message by message
 # make fuzz                   a coverage-guided fuzzer over the C interface: SECONDS=60. It needs clang with its fuzzer
 # make pictures               the runs of examples/*.ticket as pictures in docs/pictures/
-# make install PREFIX=..      the C header, library and pkg-config file; simulate, explain-run, draw-run and the man page
+# make install PREFIX=..      the C header, library and pkg-config file; simulate, reasons, explain-run, draw-run and the man page
 # make help                   this list
 
 PREFIX ?= /usr/local
@@ -35,10 +36,12 @@ VERSION = $(shell sed -n 's/^.define UC_VERSION "\(.*\)"/\1/p' include/agreement
 COVERAGE_FLAGS = -Cpasses=sancov-module -Cllvm-args=-sanitizer-coverage-level=3 -Cllvm-args=-sanitizer-coverage-inline-8bit-counters \
   -Cllvm-args=-sanitizer-coverage-pc-table -Cllvm-args=-sanitizer-coverage-trace-compares
 
-.PHONY: all help prove ticket-named simulate-built run explain picture test vectors vectors-part unused second-test wrong-worlds library-test host-test \
+.PHONY: all help prove ticket-named simulate-built show-built run explain picture test vectors vectors-part unused second-test wrong-worlds library-test host-test \
   interface-test show-test compare compare-short bench fuzz pictures install
 
-all: prove $(LIBRARY) target/bin/host target/bin/frames target/bin/report
+EXAMPLES = host frames report reasons
+
+all: prove $(LIBRARY) $(EXAMPLES:%=target/bin/%)
 
 help:
 	@sed -n '/^#/!q; s/^# //p' Makefile
@@ -58,10 +61,14 @@ simulate-built: ticket-named
 run: simulate-built
 	@said=$$(target/bin/simulate < "$$TICKET") && test -n "$$said" && printf '%s\n' "$$said"
 
-explain: simulate-built
-	@tools/explain-run -- "$$TICKET"
+# What explaining and drawing ask: the program for the answer, and an example, with the library, for the reasons.
+show-built: simulate-built
+	@$(MAKE) -s target/bin/reasons >&2
 
-picture: simulate-built
+explain: show-built
+	@tools/explain-run $(if $(PROCESS),--process $(PROCESS)) $(if $(ROUND),--round $(ROUND)) -- "$$TICKET"
+
+picture: show-built
 	@mkdir -p target/pictures
 	@picture=$${PICTURE:-target/pictures/$$(basename -- "$$TICKET" .ticket).svg} && tools/draw-run -- "$$TICKET" "$$picture" && echo "$$picture"
 
@@ -94,8 +101,8 @@ target/bin/calls: tests/calls.c include/agreement.h $(LIBRARY)
 	mkdir -p target/bin
 	$(CC) $(CFLAGS_STRICT) $(SANITIZERS) tests/calls.c $(LIBRARY) -o $@
 
-host-test: target/bin/simulate $(foreach example,host frames report,target/bin/$(example) target/bin/$(example)-sanitized)
-	tools/host-test target/bin/host-sanitized target/bin/frames-sanitized target/bin/report-sanitized target/bin/simulate
+host-test: target/bin/simulate $(EXAMPLES:%=target/bin/%) $(EXAMPLES:%=target/bin/%-sanitized)
+	tools/host-test $(EXAMPLES:%=target/bin/%-sanitized) target/bin/simulate
 
 library-test: target/bin/calls
 	tools/library-test target/bin/calls
@@ -103,7 +110,7 @@ library-test: target/bin/calls
 interface-test: $(LIBRARY)
 	tools/interface-test $(LIBRARY)
 
-show-test: target/bin/simulate target/bin/calls
+show-test: target/bin/simulate target/bin/reasons target/bin/calls
 	tools/show-test target/bin/simulate target/bin/calls
 
 unused:
@@ -136,7 +143,7 @@ fuzz: $(LIBRARY)
 	clang -g -O1 -std=c11 -fsanitize=fuzzer,address,undefined second/fuzz/fuzz.c $(LIBRARY) target/fuzz/second/release/liboracle.a -o target/fuzz/fuzz
 	target/fuzz/fuzz -max_len=4200 -max_total_time=$(SECONDS) target/fuzz/corpus
 
-pictures: target/bin/simulate
+pictures: target/bin/simulate target/bin/reasons
 	mkdir -p docs/pictures
 	for t in examples/*.ticket; do tools/draw-run "$$t" "docs/pictures/$$(basename "$$t" .ticket).svg" || exit; done
 
@@ -144,11 +151,11 @@ target/man/simulate.1: docs/simulate.1.in include/agreement.h tools/man-page too
 	mkdir -p target/man
 	tools/man-page > $@
 
-# The tools find the header and the program by their place beside them (tools/runs.py).
+# The tools find the header and the programs by their place beside them (tools/runs.py).
 PLACE = $(DESTDIR)$(PREFIX)
-install: $(LIBRARY) target/bin/simulate target/man/simulate.1
+install: $(LIBRARY) target/bin/simulate target/bin/reasons target/man/simulate.1
 	install -d "$(PLACE)/bin" "$(PLACE)/include" "$(PLACE)/lib/pkgconfig" "$(PLACE)/share/man/man1" "$(PLACE)/share/agreement"
-	install -m 755 target/bin/simulate "$(PLACE)/bin/"
+	install -m 755 target/bin/simulate target/bin/reasons "$(PLACE)/bin/"
 	install -m 644 include/agreement.h "$(PLACE)/include/"
 	install -m 644 $(LIBRARY) "$(PLACE)/lib/"
 	sed 's|@PREFIX@|$(PREFIX)|; s|@VERSION@|$(VERSION)|' include/agreement.pc.in > "$(PLACE)/lib/pkgconfig/agreement.pc"

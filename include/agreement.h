@@ -1,8 +1,9 @@
 /*
  * agreement.h - uniform consensus among up to 64 processes on one switch
  *
- * The coordinator-based protocol of document 001, as condensed in document 01, in five calls. Running and settling
- * simulate a ticket; start, speak and close are the process part, which a host calls for one process of its own.
+ * The coordinator-based protocol of document 001, as condensed in document 01, in seven calls. Running a ticket, settling
+ * it and giving reasons, one or all, simulate it; start, speak and close are the process part, which a host calls for one
+ * process of its own.
  * (Document 01 says desk or station for process, and dark for crashed.) What each call takes and answers stands at its
  * prototype; the formats, the host's obligations and the refusals stand before them.
  * FORMATS.md (in docs/; installed in share/agreement/) has the formats field by field, with one ticket annotated.
@@ -20,8 +21,8 @@
  *
  * A TICKET is text of at most 4,096 bytes. A line is an even, non-zero count of digits 0-9, A-F and a-f, closed by byte
  * 0A. Letters are of either case, mixed in a line and in a byte as they come: two tickets that differ in the case of
- * letters alone, run into equal buffers, get the same answer and leave the same bytes, and settling them gives the same
- * answer. Two digits make a byte, numbers have their most significant byte first, and the first byte is the kind:
+ * letters alone, run into equal buffers, get the same answer and leave the same bytes, settle in the same round and have the
+ * same reasons. Two digits make a byte, numbers have their most significant byte first, and the first byte is the kind:
  *
  *   01 n t                            once: n processes, 1 to 64, of which at most t < n crash
  *   02 process value(4)               n lines, processes 1 to n in order: what each proposes
@@ -61,6 +62,17 @@
  *               1202010200040002              2 rounds, f 1, 2 speakers, 4 data frames, 2 commits
  *
  * It settles in round 1 (uc_settle): at its end processes 2, 3 and 4 hold 0000000A, adopted or decided.
+ *
+ * THE REASONS (uc_reason, uc_reasons) say, for each process and each round of the run, why the process stands where it does
+ * when the round ends. There are seven, UC_REASONS; exactly one of them is true, and that one is given. 2 to 5 are of a
+ * process that began the round up and undecided and stays up in it. A coordinator that crashes has 6. Who hears the value
+ * has 2 or 3, whether its coordinator then crashes or not. Those of the ticket above, by process:
+ *
+ *   round 1     6 3 3 2                       process 1 crashed, 2 and 3 heard the value only, 4 heard value and commit
+ *   round 2     7 1 2 7                       process 2 coordinated, 3 heard value and commit; 1 and 4 had ended before
+ *
+ * A process decides in the round in which it has 1 or 2, and crashes in the round in which it has 6. It has one of these
+ * once, 3, 4 or 5 in every round before, and 7 in every round after.
  *
  * The program `simulate` writes a refusal as one line, 1F number line(2), and uc_run answers it: see UC_REFUSALS.
  *
@@ -131,7 +143,7 @@ extern "C" {
 #endif
 
 /* The version of this header and of the library that is installed with it. */
-#define UC_VERSION "1.5"
+#define UC_VERSION "1.6"
 
 /* The most processes. */
 #define UC_MOST_PROCESSES 64
@@ -142,6 +154,7 @@ extern "C" {
 #define UC_KIND_PROPOSAL 0x02
 #define UC_KIND_FAILURE 0x03
 #define UC_KIND_END 0x04
+#define UC_HEADER_LINE_N 1 /* the place of n in the first line: uc_line_byte(ticket, UC_HEADER_LINE_N) reads it */
 #define UC_STEP_BEFORE_SENDING 0
 #define UC_STEP_DURING_DATA 1
 #define UC_STEP_DURING_COMMITS 2
@@ -163,6 +176,16 @@ extern "C" {
 #define UC_PROCESS_LINE_DATA 8
 #define UC_PROCESS_LINE_COMMITS 9
 
+/* The reasons, and the bytes that are enough for those of any run: 64 rounds of 64 processes. */
+#define UC_REASON_COORDINATED 1
+#define UC_REASON_HEARD_COMMIT 2
+#define UC_REASON_HEARD_VALUE 3
+#define UC_REASON_COORDINATOR_CRASHED_BEFORE 4
+#define UC_REASON_COORDINATOR_CRASHED_NOW 5
+#define UC_REASON_CRASHED_NOW 6
+#define UC_REASON_ENDED_BEFORE 7
+#define UC_REASONS_BYTES (UC_MOST_PROCESSES * UC_MOST_PROCESSES)
+
 /* The nine bytes of a state: the place of each field, and the marks. */
 #define UC_STATE_BYTES 9
 #define UC_STATE_PROCESS 0
@@ -183,7 +206,8 @@ extern "C" {
 #define UC_SPEECH_BYTES (UC_DATA_BYTES + UC_COMMIT_BYTES)
 
 /*
- * THE REFUSALS, each with its text. 1 to 9 are of tickets (uc_run; uc_settle has no 9), 9 to 12 of the process part.
+ * THE REFUSALS, each with its text. 1 to 9 are of tickets (uc_run and uc_reasons; uc_settle and uc_reason have no 9), 13 of
+ * uc_reason alone, 9 to 12 of the process part.
  * UC_REFUSALS(X) is X(number, text) for each: make of it a table or a switch, as uc_refusal_text does.
  */
 #define UC_REFUSALS(X) \
@@ -198,7 +222,8 @@ extern "C" {
     X(9, "the output is too short") \
     X(10, "n, t or process outside the limits, not nine bytes of state, or not a valid state") \
     X(11, "the process is not open: it has decided, or its rounds are over") \
-    X(12, "heard bytes that are not nothing, data, or data then commit of this round; or any byte in its own round")
+    X(12, "heard bytes that are not nothing, data, or data then commit of this round; or any byte in its own round") \
+    X(13, "no such process or no such round: process not within 1 to n, or round not within 1 to the run's rounds")
 
 /* The text of a refusal; of any other number, 0 too, that it is none. Inline, as all that follows up to the calls. */
 static inline const char *uc_refusal_text(unsigned number)
@@ -215,9 +240,35 @@ static inline const char *uc_refusal_text(unsigned number)
 }
 
 /*
+ * THE REASONS, each with its text, of a process in a round. UC_REASONS(X) is X(number, text) for each.
+ */
+#define UC_REASONS(X) \
+    X(1, "coordinated and decided") \
+    X(2, "heard value and commit") \
+    X(3, "heard the value only") \
+    X(4, "heard nothing: the coordinator had crashed before this round") \
+    X(5, "heard nothing: the coordinator crashed in this round") \
+    X(6, "crashed in this round") \
+    X(7, "crashed or decided in an earlier round")
+
+/* The text of a reason; of any other number, 0 too, that it is none. */
+static inline const char *uc_reason_text(unsigned number)
+{
+#define UC_REASON_CASE(reason, text) \
+    case reason: \
+        return text;
+    switch (number) {
+        UC_REASONS(UC_REASON_CASE)
+    default:
+        return "no reason of this version";
+    }
+#undef UC_REASON_CASE
+}
+
+/*
  * WHAT A CALL ANSWERED, one function for each call, since the same number means different things: uc_settle may answer
  * round 10, uc_speak refusal 10. uc_CALL_refusal(answer) is the number of the refusal, and 0 if the call was not refused.
- * For the two calls that take a ticket, uc_CALL_line(answer) is the refused line; lines count from 1, and 0 means that
+ * For the four calls that take a ticket, uc_CALL_line(answer) is the refused line; lines count from 1, and 0 means that
  * no line is wrong. Bits 32 and above of their answers are 0; a call that takes several tickets would name there which one
  * it refuses.
  */
@@ -237,8 +288,24 @@ static inline unsigned uc_settle_line(uint64_t answer)
 {
     return (unsigned)(uc_settle_refusal(answer) ? answer & 65535u : 0u);
 }
-/* The name that version 1.0 had for the two calls that take a ticket. It was false of refusal 10 of uc_speak, so each use
- * is told by the compiler: ask uc_CALL_refusal. */
+static inline unsigned uc_reason_refusal(uint64_t answer)
+{
+    return (unsigned)(answer >> 16 & 65535u);
+}
+static inline unsigned uc_reason_line(uint64_t answer)
+{
+    return (unsigned)(uc_reason_refusal(answer) ? answer & 65535u : 0u);
+}
+static inline unsigned uc_reasons_refusal(uint64_t answer)
+{
+    return (unsigned)(answer >> 16 & 65535u);
+}
+static inline unsigned uc_reasons_line(uint64_t answer)
+{
+    return (unsigned)(uc_reasons_refusal(answer) ? answer & 65535u : 0u);
+}
+/* The name that version 1.0 had for uc_run and uc_settle. It was false of refusal 10 of uc_speak, so each use is told by the
+ * compiler: ask uc_CALL_refusal. */
 #if defined __GNUC__
 __attribute__((deprecated("of uc_run and uc_settle alone: ask uc_run_refusal or uc_settle_refusal")))
 #endif
@@ -268,11 +335,11 @@ static inline uint32_t uc_state_value(const uint8_t *state)
     return (uint32_t)value[0] << 24 | (uint32_t)value[1] << 16 | (uint32_t)value[2] << 8 | value[3];
 }
 
-/* The byte at a place of a result's line, from its two digits. */
+/* The byte at a place of a line, from its two digits, which may be small letters in a ticket. */
 static inline unsigned uc_line_byte(const uint8_t *line, unsigned place)
 {
     unsigned high = line[2 * place], low = line[2 * place + 1];
-    return (high <= '9' ? high - '0' : high - 'A' + 10u) << 4 | (low <= '9' ? low - '0' : low - 'A' + 10u);
+    return (high <= '9' ? high - '0' : (high | 32u) - 'a' + 10u) << 4 | (low <= '9' ? low - '0' : (low | 32u) - 'a' + 10u);
 }
 
 /*
@@ -306,6 +373,43 @@ uint64_t uc_run(const uint8_t *ticket, size_t ticket_len, uint8_t *output, size_
  * version 1.4 the answer was the run's last round, which is one of those that qualify.)
  */
 uint64_t uc_settle(const uint8_t *ticket, size_t ticket_len);
+
+/*
+ * uc_reason - give the reason of one process in one round of a ticket's run
+ *
+ *   ticket, ticket_len   the ticket's text
+ *   process              from 1 to n
+ *   round                from 1 to the run's rounds, which its result's last line has
+ *
+ * Answers the reason, from 1 to 7 (UC_REASONS): the one that is true. Or 65536 * number + line for refusal `number` at line
+ * `line` of the ticket: 1 to 8, those of uc_run, in the same order and with the same lines (0 goes with refusal 1); and
+ * after them 13, with line 0, if there is no such process or no such round: process not within 1 to n, or round not within
+ * 1 to the run's rounds, even where it is within t + 1. Both are numbers of 64 bits and never cut. There is no refusal 9.
+ * uc_reason_refusal and uc_reason_line take the answer apart. No byte is changed in either case.
+ *
+ * (Not part of the promise: it costs a run of the ticket. For many reasons of one run ask uc_reasons, once.)
+ */
+uint64_t uc_reason(const uint8_t *ticket, size_t ticket_len, uint64_t process, uint64_t round);
+
+/*
+ * uc_reasons - give the reasons of all processes in all rounds of a ticket's run
+ *
+ *   ticket, ticket_len     the ticket's text
+ *   reasons, reasons_len   where they go, a byte for each: rounds * n bytes, fewer are refusal 9; UC_REASONS_BYTES are
+ *                          enough for every ticket
+ *
+ * Answers the number of bytes written, rounds * n, which is from 1 to 4096; the bytes after them are unchanged. They
+ * stand round by round, and in each round process by process: that of process p in round r at place (r - 1) * n + p - 1.
+ * Each is what uc_reason answers for p and r. (Of an accepted ticket n is uc_line_byte(ticket, UC_HEADER_LINE_N), and
+ * the rounds are the answer / n.) Or 65536 * number + line for refusal `number` at line `line` of the ticket: 1 to 8,
+ * those of uc_run, in the same order and with the same lines (0 goes with refusal 1), and after them 9, with line 0, if
+ * reasons_len is below rounds * n; then no byte is changed. uc_reasons_refusal and uc_reasons_line take the answer
+ * apart.
+ * It takes no process and no round, so there is no refusal 13.
+ *
+ * (Not part of the promise: it costs one run of the ticket, not one for each reason.)
+ */
+uint64_t uc_reasons(const uint8_t *ticket, size_t ticket_len, uint8_t *reasons, size_t reasons_len);
 
 /*
  * uc_start - start a process part: round 1, open, with its proposal

@@ -2,7 +2,9 @@
  * Calls the library as a C program does: a request on each line of standard input, its answer on a line of standard
  * output. tools/library-test sends it the vectors of tests/vectors/.
  *
- *   run TICKET OUTPUT    settle TICKET    start PROCESS N T VALUE STATE    speak STATE OUTPUT    close STATE HEARD
+ *   run TICKET OUTPUT    settle TICKET    reason PROCESS ROUND TICKET    reasons TICKET OUTPUT
+ *   start PROCESS N T VALUE STATE    speak STATE OUTPUT    close STATE HEARD
+ *   each N TICKET OUTPUT    a call of reason for each byte of OUTPUT, which it is put into: N processes to a round
  *
  * Bytes are in digits, `-` for none; numbers are decimal. The answer is the refusal, its line (0 for the process part),
  * what was answered, and then the bytes that were lent, in the order of the request. Each is lent between guards: a call
@@ -97,6 +99,36 @@ static void settle(void)
     answer(uc_settle_refusal(a), uc_settle_line(a), a);
 }
 
+static void reason(void)
+{
+    uint64_t process = decimal(), round = decimal();
+    struct lent *ticket = lend();
+    uint64_t a = uc_reason(bytes(ticket), ticket->length, process, round);
+    answer(uc_reason_refusal(a), uc_reason_line(a), a);
+}
+
+static void reasons(void)
+{
+    struct lent *ticket = lend(), *output = lend();
+    uint64_t a = uc_reasons(bytes(ticket), ticket->length, bytes(output), output->length);
+    answer(uc_reasons_refusal(a), uc_reasons_line(a), a);
+}
+
+static void each_reason(void)
+{
+    uint64_t n = decimal();
+    struct lent *ticket = lend(), *output = lend();
+    for (size_t i = 0; i < output->length; i++) {
+        uint64_t a = uc_reason(bytes(ticket), ticket->length, i % n + 1, i / n + 1);
+        if (a > UINT8_MAX) {
+            answer(uc_reason_refusal(a), uc_reason_line(a), a);
+            return;
+        }
+        bytes(output)[i] = (uint8_t)a;
+    }
+    answer(0, 0, output->length);
+}
+
 static void start(void)
 {
     uint64_t process = decimal(), n = decimal(), t = decimal(), value = decimal();
@@ -124,7 +156,8 @@ int main(void)
     static const struct {
         const char *name;
         void (*make)(void);
-    } calls[] = {{"run", run}, {"settle", settle}, {"start", start}, {"speak", speak}, {"close", close_round}};
+    } calls[] = {{"run", run}, {"settle", settle}, {"reason", reason}, {"reasons", reasons},
+                 {"each", each_reason}, {"start", start}, {"speak", speak}, {"close", close_round}};
     static char request[4 * LONGEST + 256];
 
     while (fgets(request, sizeof request, stdin)) {

@@ -1,11 +1,12 @@
-"""Tickets and results as tools/draw-run, tools/explain-run and tools/show-test look at them.
+"""Tickets, results and reasons as tools/draw-run, tools/explain-run and tools/show-test look at them.
 
-What running a ticket answers is never worked out here: it is read off what `simulate` writes. What is worked out is how the run
+What running a ticket answers is never worked out here: it is read off what `simulate` writes; nor are the reasons of Paper 7,
+which are what `reasons` (examples/reasons.c) writes. What is worked out is how the run
 came there (who sent what to whom, what of it the switch carried, who heard it, who held which value, and so in which round
 all held one), from the ticket's failure lines and from the result, which says who had decided or crashed when; and
-`contradictions` says where the two do not add up. (The settling round is what `uc_settle` answers: tools/show-test holds it
+`contradictions` says where these do not add up. (The settling round is what `uc_settle` answers: tools/show-test holds it
 to that.) The result counts what was carried: a frame to a process that was up and undecided when the round began. Of a
-refusal, `reasons` says which of the things that its text names is the case.
+refusal, `what_is_wrong` says which of the things that its text names is the case.
 """
 
 from __future__ import annotations
@@ -20,7 +21,7 @@ from dataclasses import dataclass, field
 HERE = os.path.dirname(os.path.abspath(__file__))
 # In the repository, and where `make install` puts things.
 HEADERS = ["../include/agreement.h", "../../include/agreement.h"]
-PROGRAMS = ["../target/bin/simulate", "../../bin/simulate"]
+PROGRAMS = ["../target/bin/{}", "../../bin/{}"]
 
 HEADER, PROPOSAL, FAILURE, END = 0x01, 0x02, 0x03, 0x04
 PROCESS, LAST, REFUSAL = 0x11, 0x12, 0x1F
@@ -30,7 +31,10 @@ DECIDED, CRASHED = 1, 2
 BEFORE_SENDING, DURING_DATA, DURING_COMMITS = 0, 1, 2
 DATA, COMMIT = "data", "commit"
 TICKET_DIGITS, RESULT_DIGITS = b"0123456789ABCDEFabcdef", b"0123456789ABCDEF"
+CARRIAGE_RETURN = 0x0D
 MOST_BYTES, MOST_PROCESSES = 4096, 64
+COORDINATED, COMMITTED, VALUE_ONLY, CRASHED_BEFORE, CRASHED_NOW, CRASHES, ENDED_BEFORE = range(1, 8)  # the reasons
+OUTSIDE = 13  # the refusal of a process or a round that a run does not have
 
 
 class Unusable(Exception):
@@ -52,9 +56,20 @@ def header_text():
         return file.read()
 
 
+def header_table(name):
+    """A table of the header: numbers, each with its text."""
+    rows = header_text().split(f"#define {name}(X)", 1)[1].split("\n\n", 1)[0]
+    return {int(number): text for number, text in re.findall(r'^\s+X\((\d+), "([^"]*)"\)', rows, re.M)}
+
+
 def refusal_texts():
     """The header's table of refusals, the only one there is."""
-    return {int(number): text for number, text in re.findall(r'^\s+X\((\d+), "([^"]*)"\)', header_text(), re.M)}
+    return header_table("UC_REFUSALS")
+
+
+def reason_texts():
+    """The header's table of reasons, the only one there is."""
+    return header_table("UC_REASONS")
 
 
 def header_number(name):
@@ -94,16 +109,26 @@ def read_ticket(path):
         raise Unusable(f"{path}: {error.strerror}") from None
 
 
-def simulated(text, program=None):
-    """What `simulate` writes for a ticket."""
-    program = program or beside(PROGRAMS, "the program (`make` builds it)")
+def asked(name, program, text, *words):
+    """What a program of ours writes for a ticket."""
+    program = program or beside([place.format(name) for place in PROGRAMS], "the program (`make` builds it)")
     try:
-        ran = subprocess.run([program], input=text, capture_output=True, check=False)
+        ran = subprocess.run([program, *words], input=text, capture_output=True, check=False)
     except OSError as error:
         raise Unusable(f"{program}: {error.strerror}") from None
     if not ran.stdout:
         raise Unusable(f"{program} wrote nothing. {ran.stderr.decode(errors='replace').strip()}")
     return ran.stdout
+
+
+def simulated(text, program=None):
+    """What `simulate` writes for a ticket."""
+    return asked("simulate", program, text)
+
+
+def reasoned(text, program=None):
+    """What `reasons` writes for a ticket: for each round a line of digits, one for each process."""
+    return asked("reasons", program, text, "-")
 
 
 def lines_of(text):
@@ -192,6 +217,7 @@ class Round:
     value: int  # that the coordinator holds
     messages: list  # in sending order
     held: dict  # by process, at the round's end
+    reasons: dict = field(default_factory=dict)  # by process, as the library gives them; empty if it was not asked
 
     def sent(self, kind):
         return [message for message in self.messages if message.kind == kind]
@@ -208,6 +234,10 @@ class Round:
     @property
     def silent(self):
         return not self.coordinator.begins(self.number)
+
+    def having(self, processes, *reasons):
+        """Those of some processes that have one of these reasons."""
+        return [process for process in processes if self.reasons[process.id] in reasons]
 
 
 @dataclass
@@ -231,7 +261,7 @@ class Refused:
 
 
 def read_result(ticket, result):
-    """What a ticket was answered: a Run with its rounds played, or a Refused."""
+    """What a ticket was answered: a Run with its rounds played, still without reasons, or a Refused."""
     said, _ = lines_of(result)
     first = decoded(said[0], RESULT_DIGITS) if said else None
     if first and first[0] == REFUSAL and len(first) == LENGTHS[REFUSAL]:
@@ -240,6 +270,26 @@ def read_result(ticket, result):
     run = read_run(lines_of(ticket)[0], said)
     play(run)
     return run
+
+
+def answer_with_reasons(ticket, result, program=None):
+    """What a ticket was answered, an accepted one with the reasons that the library gives."""
+    answer = read_result(ticket, result)
+    if not isinstance(answer, Refused):
+        read_reasons(answer, reasoned(ticket, program))
+    return answer
+
+
+def read_reasons(run, text):
+    """Puts the reasons that the library gives into a run's rounds."""
+    lines, _ = lines_of(text)
+    digits = set(b"".join(b"%d" % reason for reason in reason_texts()))
+    if len(lines) != run.last:
+        raise Unusable(f"there are reasons of {counted(len(lines), 'round')}, and the run has {run.last}")
+    for played, line in zip(run.rounds, lines):
+        if len(line) != run.n or set(line) - digits:
+            raise Unusable(f"{shown(line)} are no reasons of {counted(run.n, 'process')}")
+        played.reasons = {process.id: digit - ord("0") for process, digit in zip(run.processes, line)}
 
 
 def run_rounds(result):
@@ -336,9 +386,48 @@ def contradicting_counts(run):
     return wrong
 
 
+def true_reasons(run, played):
+    """For each reason the processes of which it is true, by the messages of the round and how processes end (02, Paper 7)."""
+    r, coordinator = played.number, played.coordinator
+    hearing = {process.id for process in run.processes if process.hears_in(r)}
+    value, commit = played.heard(DATA), played.heard(COMMIT)
+    deaf = hearing - value - commit
+    return {
+        COORDINATED: {coordinator.id} if coordinator.decides_in(r) else set(),
+        COMMITTED: hearing & value & commit,
+        VALUE_ONLY: hearing & value - commit,
+        CRASHED_BEFORE: deaf if coordinator.crashed_by(r - 1) else set(),
+        CRASHED_NOW: deaf if coordinator.crashes_in(r) else set(),
+        CRASHES: {process.id for process in run.processes if process.crashes_in(r)},
+        ENDED_BEFORE: {process.id for process in run.processes if not process.begins(r)},
+    }
+
+
+def worked_reasons(run):
+    """The reasons of a run, round by round, by what is true of each process; 0 where not exactly one is. For tests of the library."""
+    table = []
+    for played in run.rounds:
+        applies = true_reasons(run, played)
+        true = ([reason for reason, those in applies.items() if process.id in those] for process in run.processes)
+        table += [found[0] if len(found) == 1 else 0 for found in true]
+    return table
+
+
+def contradicting_reasons(run):
+    """Where a reason that the library gives is not true of what is shown."""
+    texts = reason_texts()
+    return [
+        f"round {played.number}: process {process} has reason {reason}, {texts[reason]}, which is not so"
+        for played in run.rounds
+        for applies in [true_reasons(run, played)]
+        for process, reason in played.reasons.items()
+        if process not in applies[reason]
+    ]
+
+
 def contradictions(run):
-    """Where the run, as it was played, and the result do not add up."""
-    wrong = contradicting_counts(run)
+    """Where the run, as it was played, the result and the reasons do not add up."""
+    wrong = contradicting_counts(run) + contradicting_reasons(run)
     speakers = sum(not played.silent for played in run.rounds)
     if speakers != run.speakers:
         wrong.append(f"{speakers} coordinators speak, but the result counts {run.speakers}")
@@ -364,13 +453,30 @@ def contradictions(run):
 # ---- what is wrong with a refused ticket
 
 
-def reasons(ticket, refused):
+# What a refusal means, to be read out to someone who has never seen a ticket's text.
+MEANINGS = {
+    1: "the ticket is too long. The longest that there can be has 2,543 bytes, so this text is something else, or several tickets.",
+    2: "this line is not written as the lines of a ticket are: pairs of digits 0-9, A-F or a-f, no blanks, and a line feed at its end.",
+    3: "this line is of a kind that may not stand here, or it is too long or too short; or the closing line 04 is missing.",
+    4: "the first line asks for what cannot be: there are 1 to 64 desks, and fewer of them may fail than there are.",
+    5: "the proposals are out of order: there is one for each desk, from desk 1 to the last, and none may be missing.",
+    6: "the ticket has more failure lines than its first line allows.",
+    7: "this failure line names a desk, a round or a step that there is not, or its desk does not come after that of the line before.",
+    8: "this failure line does not fit together: its round, its set or its count cannot go with its step.",
+    9: "nothing is wrong with the ticket. The program that asked made too little room for the answer.",
+    13: "nothing is wrong with the ticket. It has no such desk, or its run no such round: both count from 1, and a run ends when no desk is left undecided.",
+}
+
+
+def what_is_wrong(ticket, refused):
     """Which of the things that a refusal's text names is the case: sentences, at least one."""
     if refused.number == 1:
         return [f"The ticket has {len(ticket):,} bytes."]
     lines, closed = lines_of(ticket)
-    if refused.line < 1 or refused.line > len(lines) + 1:
+    if refused.number == OUTSIDE or refused.line < 1 or refused.line > len(lines) + 1:
         return ["No line is wrong."]
+    if not ticket:
+        return ["The ticket is empty."]
     if refused.line == len(lines) + 1:
         return [f"The ticket is over after {counted(len(lines), 'line')}, and none of them is the closing 04."]
     line = lines[refused.line - 1]
@@ -378,18 +484,18 @@ def reasons(ticket, refused):
     n, t = (decoded(lines[0]) or b"\0\0\0")[1:3] if refused.line > 1 else (0, 0)
     before = [decoded(earlier) for earlier in lines[: refused.line - 1]]
     found = {
-        2: lambda: line_reasons(line, closed or refused.line < len(lines)),
-        3: lambda: kind_reasons(data, before, n),
-        4: lambda: limit_reasons(data[1], data[2]),
+        2: lambda: line_findings(line, closed or refused.line < len(lines)),
+        3: lambda: kind_findings(data, before, n),
+        4: lambda: limit_findings(data[1], data[2]),
         5: lambda: [f"It is of process {data[1]}; the next one is process {refused.line - 1}."],
         6: lambda: [f"t is {t}, and this is failure line {refused.line - 1 - n}."],
-        7: lambda: place_reasons(data, before, n, t),
-        8: lambda: step_reasons(data, n),
+        7: lambda: place_findings(data, before, n, t),
+        8: lambda: step_findings(data, n),
     }.get(refused.number, lambda: [])()
     return found or ["Which of these it is, this tool cannot tell."]
 
 
-def line_reasons(line, closed):
+def line_findings(line, closed):
     found = []
     if not line:
         found.append("The line is empty.")
@@ -398,17 +504,19 @@ def line_reasons(line, closed):
         found.append(f"It has other bytes than digits 0-9, A-F and a-f: {', '.join(map(byte_text, other[:8]))}.")
     elif len(line) % 2:
         found.append(f"It has {counted(len(line), 'digit')}, which is an odd count.")
+    if CARRIAGE_RETURN in line:
+        found.append("The file has the line ends of another system (0D 0A): it is to be saved with 0A alone.")
     if not closed:
         found.append("It is the last line, and no byte 0A closes it.")
     return found
 
 
 def byte_text(byte):
-    known = {0x20: "a space", 0x0D: "a carriage return (0D)", 0x09: "a tab (09)"}
+    known = {0x20: "a space", CARRIAGE_RETURN: "a carriage return (0D)", 0x09: "a tab (09)"}
     return known.get(byte) or (f"'{chr(byte)}'" if 0x20 < byte < 0x7F else f"byte {byte:02X}")
 
 
-def kind_reasons(data, before, n):
+def kind_findings(data, before, n):
     """The kinds that may stand here, or the length that the kind has."""
     if before and before[-1][0] == END:
         return ["It stands after the closing 04."]
@@ -419,11 +527,11 @@ def kind_reasons(data, before, n):
     else:
         allowed = [FAILURE, END]
     if data[0] not in allowed:
-        return [f"It is of kind {data[0]:02X}; here stands {' or '.join(f'{kind:02X}' for kind in allowed)}."]
+        return [f"It is a line {data[0]:02X}; here a line {' or '.join(f'{kind:02X}' for kind in allowed)} must stand."]
     return [f"It has {counted(len(data), 'byte')}; a line {data[0]:02X} has {LENGTHS[data[0]]}."]
 
 
-def limit_reasons(n, t):
+def limit_findings(n, t):
     found = []
     if not 1 <= n <= MOST_PROCESSES:
         found.append(f"n is {n}, which is not within 1 to {MOST_PROCESSES}.")
@@ -432,7 +540,7 @@ def limit_reasons(n, t):
     return found
 
 
-def place_reasons(data, before, n, t):
+def place_findings(data, before, n, t):
     process, round_number, step = data[1:4]
     found = []
     if not 1 <= process <= n:
@@ -446,7 +554,7 @@ def place_reasons(data, before, n, t):
     return found
 
 
-def step_reasons(data, n):
+def step_findings(data, n):
     process, round_number, step, reached, count = data[1], data[2], data[3], number(data[4:12]), data[12]
     found = []
     if step != BEFORE_SENDING and round_number != process:
@@ -458,7 +566,7 @@ def step_reasons(data, n):
     elif reached:
         found.append(f"The set is not 0; step {step:02X} has none.")
     if step == DURING_COMMITS and count > n - process:
-        found.append(f"{count} commits are more than the {n - process} processes above {process}.")
+        found.append(f"{counted(count, 'commit')} are more than the {counted(n - process, 'process')} above {process}.")
     elif step != DURING_COMMITS and count:
         found.append(f"The count is {count}; step {step:02X} has none.")
     return found
@@ -485,6 +593,11 @@ def shown(line, most=72):
 
 
 # ---- words
+
+
+def verb(processes, one, more):
+    """Who does something, as a sentence begins."""
+    return names(processes).capitalize() + " " + (one if len(processes) == 1 else more)
 
 
 def counted(count, noun):
@@ -523,9 +636,22 @@ def dropped_text(played):
     what = f"data to {names(data)}" + (f" and commits to {names(commits)}" if commits else "")
     if {process.id for process in data} == {process.id for process in commits}:
         what = f"data and commits to {names(data)}"
-    ended = ((fate, [process for process in data if process.end == end]) for end, fate in ((DECIDED, "decided"), (CRASHED, "crashed")))
-    why = [names(those) + f" {'has' if len(those) == 1 else 'have'} {fate}" for fate, those in ended if those]
-    return f"{what} ({', '.join(why)})"
+    return f"{what} ({ended_text(data, ', ')})"
+
+
+def ended_text(processes, joint):
+    """Which of some processes have decided, and which have crashed."""
+    ended = ((fate, [process for process in processes if process.end == end]) for end, fate in ((DECIDED, "decided"), (CRASHED, "crashed")))
+    return joint.join(names(those) + f" {'has' if len(those) == 1 else 'have'} {fate}" for fate, those in ended if those)
+
+
+def reasons_that_occur(run):
+    return sorted({reason for played in run.rounds for reason in played.reasons.values()})
+
+
+def reason_lines(run):
+    """The reasons as digits, a text for each round, in which each process has its place."""
+    return ["".join(str(played.reasons[process.id]) for process in run.processes) for played in run.rounds]
 
 
 def settled_text(run):

@@ -15,6 +15,8 @@ what is dropped.
 
 Settling answers the lowest round that qualifies (Paper 6): the first of those that base.jsonl lists, and what paper-06.jsonl says, which
 has the rounds of the run too and nothing else of what running writes (`settlings`).
+
+paper-07.jsonl has the reasons of whole runs, and single reasons or refusals (`reasons`).
 """
 
 from __future__ import annotations
@@ -28,6 +30,7 @@ BASE, DESK = "base", "desk"
 PAPERS = ["paper-01", "paper-02", "paper-03", "paper-04"]  # whose vectors are of running a ticket
 TICKET_FILES = [BASE, *PAPERS]
 SETTLING = "paper-06"  # whose vectors are of settling a ticket
+REASONS = "paper-07"  # whose vectors are of the reason of a process in a round
 COUNTED_AS_SENT = [BASE, "paper-01", "paper-02"]  # whose `result` is of before Paper 4
 FLOOD = (b"05", b"06")  # how a ticket begins that is refused until Paper 5 lands
 COUNTS = 4  # digits at the end of a process's line, two for each count (Paper 2)
@@ -36,6 +39,7 @@ LAST_COUNTS = 8  # digits at the end of the last line, four for each count
 LAST_LINE = 16  # digits of it in all
 LINES_WITH_COUNTS = {b"11": (PROCESS_LINE, COUNTS), b"12": (LAST_LINE, LAST_COUNTS)}
 TOO_SHORT = 9  # the refusal of an output
+OUTSIDE = 13  # that of a process or a round that a run does not have
 
 
 @dataclass
@@ -67,6 +71,28 @@ class Settling(Vector):
     refusal: tuple | None  # its number and line
     round: int | None  # the settling round of an accepted ticket
     run_rounds: int | None  # those of its run, where the file says it
+
+
+@dataclass
+class Reasons(Vector):
+    """A ticket, and the reasons of its whole run, or one process and one round of it with the reason or a refusal."""
+
+    text: bytes
+    rounds: list | None  # for each round the reason of each process in order
+    process: int | None  # where one reason is asked for
+    round: int | None
+    reason: int | None  # none if it is refused
+    refusal: tuple | None  # its number and line
+
+    @property
+    def table(self):
+        """The reasons of the whole run, round by round; none if the vector has one alone."""
+        return [reason for of_round in self.rounds for reason in of_round] if self.rounds else None
+
+    @property
+    def of_ticket(self):
+        """Whether it is refused for its ticket, whatever is asked of it."""
+        return self.refusal is not None and self.refusal[0] != OUTSIDE
 
 
 @dataclass
@@ -113,6 +139,13 @@ class Ticket(Vector):
     def comparable(self, written):
         """What is written now, as bytes, in that form; none if a line is not of today's length."""
         return without_counts(written) if self.process_lines_without_counts else written
+
+    @property
+    def result_with_counts(self):
+        """The result, as bytes, in the form of today, with counts of 0 in the lines 11 of a base ticket, whose file has none there."""
+        zeros = "0" * COUNTS if self.process_lines_without_counts else ""
+        lines = (line + zeros if line.startswith("11") else line for line in self.result.splitlines())
+        return "".join(line + "\n" for line in lines).encode("ascii")
 
     @property
     def refusal(self):
@@ -184,17 +217,30 @@ def tickets(*files):
     ]
 
 
+def refusal_of(vector):
+    """Number and line of the refusal that a vector of Papers 6 and 7 has; none if it has none."""
+    refusal = vector.get("refusal")
+    return (refusal["number"], refusal["line"]) if refusal else None
+
+
 def settling_of(number, vector):
     """A vector of Paper 6."""
-    refusal = vector.get("refusal")
-    numbers = (refusal["number"], refusal["line"]) if refusal else None
-    text = text_of(vector, "ticket")
-    return Settling(SETTLING, number, vector["about"], text, numbers, vector.get("settling_round"), vector.get("run_rounds"))
+    text, refusal = text_of(vector, "ticket"), refusal_of(vector)
+    return Settling(SETTLING, number, vector["about"], text, refusal, vector.get("settling_round"), vector.get("run_rounds"))
 
 
 def settlings():
     """The tickets of Paper 6, whose settling round is told by itself."""
     return [settling_of(number, vector) for number, vector in objects(SETTLING)]
+
+
+def reasons():
+    """The vectors of Paper 7."""
+    names = ("reasons_by_round_then_station", "station", "round", "reason")
+    return [
+        Reasons(REASONS, number, vector["about"], text_of(vector, "ticket"), *map(vector.get, names), refusal_of(vector))
+        for number, vector in objects(REASONS)
+    ]
 
 
 def calls():

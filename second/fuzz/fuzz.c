@@ -1,4 +1,4 @@
-/* A libFuzzer harness for the five functions of libagreement.a.
+/* A libFuzzer harness for the seven functions of libagreement.a.
  *
  * The first byte of the input picks the function, the rest is what it is
  * called with (seed-corpus writes inputs of this form). Checked is first what
@@ -8,7 +8,8 @@
  * 01, and demand 3), that it has no small letter, that the counts of its
  * processes are possible by its own ends and add up, and that they are within
  * the bounds by speakers (document 02, Papers 2 and 4), that nobody decides
- * before the settling round (Paper 6), and that
+ * before the settling round (Paper 6), that reasons are possible by the ends of
+ * the result, single ones being those of the table (Paper 7), and that
  * a ticket in other letters is answered alike and leaves the same bytes (Paper
  * 1); and then that the second implementation answers alike and leaves the same
  * bytes.
@@ -23,6 +24,9 @@
 
 uint64_t uc_run(const uint8_t *ticket, size_t ticket_len, uint8_t *output, size_t output_len);
 uint64_t uc_settle(const uint8_t *ticket, size_t ticket_len);
+uint64_t uc_reason(const uint8_t *ticket, size_t ticket_len, uint64_t process, uint64_t round);
+uint64_t uc_reasons(const uint8_t *ticket, size_t ticket_len, uint8_t *reasons,
+                    size_t reasons_len);
 uint64_t uc_start(uint64_t process, uint64_t n, uint64_t t, uint32_t value, uint8_t *state,
                   size_t state_len);
 uint64_t uc_speak(const uint8_t *state, size_t state_len, uint8_t *output, size_t output_len);
@@ -31,6 +35,9 @@ uint64_t uc_close(uint8_t *state, size_t state_len, const uint8_t *heard, size_t
 /* The second implementation (src/lib.rs). */
 uint64_t second_run(const uint8_t *ticket, size_t ticket_len, uint8_t *output, size_t output_len);
 uint64_t second_settle(const uint8_t *ticket, size_t ticket_len);
+uint64_t second_reason(const uint8_t *ticket, size_t ticket_len, uint64_t process, uint64_t round);
+uint64_t second_reasons(const uint8_t *ticket, size_t ticket_len, uint8_t *reasons,
+                        size_t reasons_len);
 uint64_t second_start(uint64_t process, uint64_t n, uint64_t t, uint32_t value, uint8_t *state,
                       size_t state_len);
 uint64_t second_speak(const uint8_t *state, size_t state_len, uint8_t *output, size_t output_len);
@@ -42,6 +49,7 @@ enum {
     PROCESS_LINE = 21,
     LAST_LINE = 17,
     LONGEST_RESULT = PROCESS_LINE * MOST_PROCESSES + LAST_LINE,
+    MOST_REASONS = MOST_PROCESSES * MOST_PROCESSES,
     STATE = 9,
     SPEECH = 8,
     DATA = 6,
@@ -343,6 +351,86 @@ static void fuzz_settle(Input input) {
     take_back(text);
 }
 
+/* A reason of a process in a round, by the ends in the run's result: 1 and 2 if it
+ * decides then, in its own round or another; 6 if it crashes then; 7 if it ended
+ * before; 3, 4 or 5 if it ends later, 4 just after its coordinator's crash and 5 in it. */
+static void check_reason(uint64_t reason, const uint8_t *result, uint32_t process, uint32_t round) {
+    const uint8_t *line = line_of(result, process), *coordinator = line_of(result, round);
+    uint32_t end = number_in(line, 2, 1), last = number_in(line, 3, 1);
+    uint32_t its_end = number_in(coordinator, 2, 1), its_last = number_in(coordinator, 3, 1);
+    CHECK(1 <= reason && reason <= 7);
+    CHECK((reason == 7) == (last < round));
+    CHECK((reason == 6) == (last == round && end == 2));
+    CHECK((reason == 1) == (last == round && end == 1 && process == round));
+    CHECK((reason == 2) == (last == round && end == 1 && process != round));
+    if (reason == 3) CHECK(its_end == 2 && its_last == round);
+    if (reason == 4) CHECK(its_end == 2 && its_last < round);
+    if (reason == 5) CHECK(its_end == 2 && its_last == round);
+}
+
+static void fuzz_reason(Input input) {
+    uint8_t result[LONGEST_RESULT];
+    uint64_t process = take_number(&input, 8), round = take_number(&input, 8);
+    uint64_t written = run_ample(input, result);
+    Lent text = lend(input.bytes, input.length), other = lend_in_other_letters(input);
+    uint64_t answer = uc_reason(text.bytes, text.length, process, round);
+    CHECK(second_reason(text.bytes, text.length, process, round) == answer);
+    CHECK(uc_reason(other.bytes, other.length, process, round) == answer);
+    if (written >= REFUSED) {
+        CHECK(answer == written);
+    } else {
+        uint32_t n = number_in(input.bytes, 1, 1), rounds = number_in(line_of(result, n + 1), 1, 1);
+        if (1 <= process && process <= n && 1 <= round && round <= rounds) {
+            check_reason(answer, result, (uint32_t)process, (uint32_t)round);
+        } else {
+            CHECK(answer == 13 * REFUSED);
+        }
+    }
+    CHECK(memcmp(text.bytes, input.bytes, input.length) == 0);
+    take_back(text);
+    take_back(other);
+}
+
+/* All reasons of an accepted ticket with this result. */
+static void check_table(const uint8_t *table, const uint8_t *result, uint32_t n, uint32_t rounds) {
+    for (uint32_t round = 1; round <= rounds; round++)
+        for (uint32_t process = 1; process <= n; process++)
+            check_reason(table[(round - 1) * n + process - 1], result, process, round);
+}
+
+static void fuzz_reasons(Input input) {
+    uint8_t result[LONGEST_RESULT];
+    size_t room = take_number(&input, 2) % (MOST_REASONS + 64);
+    uint64_t written = run_ample(input, result);
+    Lent text = lend(input.bytes, input.length), other = lend_in_other_letters(input);
+    Lent table = lend(NULL, room), second_table = lend(NULL, room), other_table = lend(NULL, room);
+    uint64_t answer = uc_reasons(text.bytes, text.length, table.bytes, room);
+    CHECK(second_reasons(text.bytes, text.length, second_table.bytes, room) == answer);
+    CHECK(uc_reasons(other.bytes, other.length, other_table.bytes, room) == answer);
+    check_same(table, second_table);
+    check_same(table, other_table);
+    CHECK(memcmp(text.bytes, input.bytes, input.length) == 0);
+    if (written >= REFUSED) {
+        CHECK(answer == written && untouched_from(table, 0));
+    } else {
+        uint32_t n = number_in(input.bytes, 1, 1), rounds = number_in(line_of(result, n + 1), 1, 1);
+        if (room < n * rounds) {
+            CHECK(answer == 9 * REFUSED && untouched_from(table, 0));
+        } else {
+            CHECK(answer == n * rounds && untouched_from(table, n * rounds));
+            check_table(table.bytes, result, n, rounds);
+            uint32_t place = (uint32_t)(room % (n * rounds));
+            uint64_t one = uc_reason(text.bytes, text.length, place % n + 1, place / n + 1);
+            CHECK(one == table.bytes[place]);
+        }
+    }
+    take_back(text);
+    take_back(other);
+    take_back(table);
+    take_back(second_table);
+    take_back(other_table);
+}
+
 static void fuzz_start(Input input) {
     uint64_t process = take_number(&input, 8), n = take_number(&input, 8);
     uint64_t t = take_number(&input, 8);
@@ -430,12 +518,14 @@ static void fuzz_close(Input input) {
 int LLVMFuzzerTestOneInput(const uint8_t *bytes, size_t length) {
     if (length == 0) return 0;
     Input input = {bytes + 1, length - 1};
-    switch (bytes[0] % 5) {
+    switch (bytes[0] % 7) {
     case 0: fuzz_run(input); break;
     case 1: fuzz_settle(input); break;
     case 2: fuzz_start(input); break;
     case 3: fuzz_speak(input); break;
     case 4: fuzz_close(input); break;
+    case 5: fuzz_reason(input); break;
+    case 6: fuzz_reasons(input); break;
     }
     return 0;
 }

@@ -1,4 +1,4 @@
-//! The module's five operations, with their answers as numbers, as its C
+//! The module's seven operations, with their answers as numbers, as its C
 //! interface has them.
 
 use crate::local;
@@ -8,13 +8,21 @@ use crate::Simulator;
 /// Multiplies a refusal's number in the answers about tickets.
 pub const REFUSED: u64 = 65536;
 
-/// An implementation of the five operations, total on every input.
+/// An implementation of the seven operations, total on every input.
 pub trait Agreement {
     /// Runs a ticket: the bytes written, or 65536 · number + line (1 to 9).
     fn run(&mut self, ticket: &[u8], output: &mut [u8]) -> u64;
 
     /// Settling: the lowest round that qualifies, or 65536 · number + line (1 to 8).
     fn settle(&mut self, ticket: &[u8]) -> u64;
+
+    /// The reason of a process in a round, 1 to 7, or 65536 · number + line (1 to 8, and
+    /// then 13 at line 0).
+    fn reason(&mut self, ticket: &[u8], process: u64, round: u64) -> u64;
+
+    /// The reasons of all processes in all rounds, round by round: the bytes written, or
+    /// 65536 · number + line (1 to 9).
+    fn reasons(&mut self, ticket: &[u8], output: &mut [u8]) -> u64;
 
     /// Starts a process: 0, or refusal 10.
     fn start(&mut self, process: u64, n: u64, t: u64, value: u32, state: &mut [u8]) -> u64;
@@ -43,6 +51,16 @@ impl Agreement for Simulator {
 
     fn settle(&mut self, ticket: &[u8]) -> u64 {
         self.settling_round(ticket).map_or_else(refused, u64::from)
+    }
+
+    fn reason(&mut self, ticket: &[u8], process: u64, round: u64) -> u64 {
+        let reason = Simulator::reason(self, ticket, process, round);
+        reason.map_or_else(refused, |reason| u64::from(reason.number()))
+    }
+
+    fn reasons(&mut self, ticket: &[u8], output: &mut [u8]) -> u64 {
+        let written = Simulator::reasons(self, ticket, output);
+        written.map_or_else(refused, |length| length as u64)
     }
 
     fn start(&mut self, process: u64, n: u64, t: u64, value: u32, state: &mut [u8]) -> u64 {

@@ -1,5 +1,5 @@
 //! A second implementation of document 01's base version and of document 02's
-//! Papers 1 to 4 and 6, written from the papers alone and in a shape of its own: a run
+//! Papers 1 to 4, 6 and 7, written from the papers alone and in a shape of its own: a run
 //! is simulated message by message, with a mailbox for each process and a switch
 //! in between.
 //!
@@ -11,6 +11,7 @@
 //! | 02, Paper 3: what each byte is as a digit, by a rule | [`lines`] |
 //! | 02, Paper 4: which messages are dropped, and so not counted | [`switch::Switch`] |
 //! | 02, Paper 6: the first settling round | [`Simulator::settling_round`] |
+//! | 02, Paper 7: the reason of each process in each round | [`round_reason`], [`process::Course`] |
 //! | "A round" | [`process`], [`switch`], [`simulation`] |
 //! | "The result", refusal 9, settling | [`Simulator`], [`report`] |
 //! | "The desk part", refusals 9 to 12 | [`local`] |
@@ -21,7 +22,7 @@
 //! The paper's stations, desks and frames are processes and messages here, and
 //! a process that goes dark has crashed, as in document 001.
 //! [`generate`], [`patterns`] and [`corpus`] make tickets to try implementations
-//! on, [`recount`] counts in another way, and [`interface`] is what the
+//! on, [`recount`] counts and gives reasons in another way, and [`interface`] is what the
 //! implementations have in common. [`worlds`] changes the rules one at a time and
 //! shows which claims fail then.
 
@@ -39,6 +40,7 @@ pub mod recount;
 pub mod refusal;
 pub mod report;
 pub mod rng;
+pub mod round_reason;
 pub mod separate;
 pub mod simulation;
 pub mod switch;
@@ -49,5 +51,6 @@ pub mod worlds;
 mod simulator;
 
 pub use refusal::{Reason, Refusal};
+pub use round_reason::RoundReason;
 pub use simulator::Simulator;
 pub use ticket::{Crash, Failure, Ticket};

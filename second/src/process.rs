@@ -23,6 +23,25 @@ pub enum Status {
     Crashed(u8),
 }
 
+/// How a round went for one process.
+#[derive(Clone, Copy, Debug, PartialEq, Eq)]
+pub enum Course {
+    /// It had crashed before.
+    CrashedBefore,
+    /// It had decided before.
+    DecidedBefore,
+    /// It crashed.
+    Crashed,
+    /// It coordinated, did not crash, and decided.
+    Coordinated,
+    /// Its mailbox held the value and a commit.
+    HeardValueAndCommit,
+    /// Its mailbox held the value alone.
+    HeardValue,
+    /// Its mailbox was empty.
+    HeardNothing,
+}
+
 /// How many messages of a process the switch has carried (02, Papers 2 and 4); in
 /// [`crate::recount`] also how many it sends.
 #[derive(Clone, Copy, Debug, Default, PartialEq, Eq)]
@@ -142,33 +161,40 @@ impl Process {
     }
 
     /// The end of `round`: the process crashes, decides as its coordinator, or
-    /// goes through its mailbox.
-    pub fn end_round(&mut self, round: u8) {
-        if !self.is_active() {
-            return;
-        }
-        if self.crash_in(round).is_some() {
-            self.status = Status::Crashed(round);
-        } else if self.id == round {
-            self.status = Status::Decided(round);
-        } else {
-            self.read_mailbox(round);
+    /// goes through its mailbox. The answer is how the round went for it.
+    pub fn end_round(&mut self, round: u8) -> Course {
+        match self.status {
+            Status::Crashed(_) => Course::CrashedBefore,
+            Status::Decided(_) => Course::DecidedBefore,
+            Status::Active if self.crash_in(round).is_some() => {
+                self.status = Status::Crashed(round);
+                Course::Crashed
+            }
+            Status::Active if self.id == round => {
+                self.status = Status::Decided(round);
+                Course::Coordinated
+            }
+            Status::Active => self.read_mailbox(round),
         }
     }
 
     /// Adopts the value heard, and decides it if a commit was heard as well.
-    fn read_mailbox(&mut self, round: u8) {
-        let mut adopted = false;
+    fn read_mailbox(&mut self, round: u8) -> Course {
+        let mut course = Course::HeardNothing;
         for message in self.mailbox.drain(..) {
             match message {
                 Message::Data(value) => {
                     self.estimate = value;
-                    adopted = true;
+                    course = Course::HeardValue;
                 }
-                Message::Commit if adopted => self.status = Status::Decided(round),
+                Message::Commit if course == Course::HeardValue => {
+                    self.status = Status::Decided(round);
+                    course = Course::HeardValueAndCommit;
+                }
                 Message::Commit => {}
             }
         }
+        course
     }
 }
 
@@ -203,14 +229,15 @@ mod tests {
             for &message in messages {
                 process.hear(1, message);
             }
-            process.end_round(1);
-            (process.status(), process.estimate())
+            let course = process.end_round(1);
+            (process.status(), process.estimate(), course)
         };
         let data = Message::Data(10);
-        assert_eq!(after(&[]), (Status::Active, 30));
-        assert_eq!(after(&[data]), (Status::Active, 10));
-        assert_eq!(after(&[data, Message::Commit]), (Status::Decided(1), 10));
-        assert_eq!(after(&[Message::Commit]), (Status::Active, 30));
+        let both = [data, Message::Commit];
+        assert_eq!(after(&[]), (Status::Active, 30, Course::HeardNothing));
+        assert_eq!(after(&[data]), (Status::Active, 10, Course::HeardValue));
+        assert_eq!(after(&both), (Status::Decided(1), 10, Course::HeardValueAndCommit));
+        assert_eq!(after(&[Message::Commit]), (Status::Active, 30, Course::HeardNothing));
     }
 
     #[test]
@@ -219,7 +246,25 @@ mod tests {
         process.doom(Failure::before_sending(3, 1));
         process.hear(1, Message::Data(10));
         process.hear(1, Message::Commit);
-        process.end_round(1);
+        assert_eq!(process.end_round(1), Course::Crashed);
         assert_eq!((process.status(), process.estimate()), (Status::Crashed(1), 30));
+        assert_eq!(process.end_round(2), Course::CrashedBefore);
+    }
+
+    #[test]
+    fn a_coordinator_decides_unless_it_crashes() {
+        let mut process = Process::new(3, 30);
+        assert_eq!(
+            [1, 2, 3, 4].map(|round| process.end_round(round)),
+            [
+                Course::HeardNothing,
+                Course::HeardNothing,
+                Course::Coordinated,
+                Course::DecidedBefore,
+            ]
+        );
+        process.restart(30);
+        process.doom(Failure::sending_commits(3, 1));
+        assert_eq!(process.end_round(3), Course::Crashed);
     }
 }

@@ -1,8 +1,10 @@
-//! The counts of a result by another way than the simulation's: read off the
-//! ticket and how the processes end, by sets or by document 01's numbers, and not
-//! message by message. Tests hold counts to it, those of the rule before Paper 4 too.
+//! The counts of a result, and the reasons of Paper 7, by another way than the
+//! simulation's: read off the ticket and how the processes end, by sets or by document
+//! 01's numbers, and not message by message. Tests hold counts to it, those of the rule
+//! before Paper 4 too, and reasons.
 
 use crate::process::{MessageCounts, Status};
+use crate::round_reason::RoundReason;
 use crate::ticket::{Crash, Ticket};
 
 /// The round in which a process ends; none has ended that is active.
@@ -80,12 +82,41 @@ pub fn counted(
     MessageCounts { data, commits }
 }
 
+/// The reason of process `id` in `round`, if the processes end so.
+pub fn reason(ticket: &Ticket, ends: &[Status], id: u8, round: u8) -> RoundReason {
+    let end = ends[usize::from(id) - 1];
+    let [data, commits] = recipients(ticket, ends, round);
+    if end_round(end) < round {
+        RoundReason::EndedBefore
+    } else if crashes_in(end, round) {
+        RoundReason::Crashed
+    } else if id == round {
+        RoundReason::Coordinated
+    } else if commits.contains(&id) {
+        RoundReason::Committed
+    } else if data.contains(&id) {
+        RoundReason::ValueOnly
+    } else if crashed_before(ends[usize::from(round) - 1], round) {
+        RoundReason::CoordinatorCrashedBefore
+    } else {
+        RoundReason::CoordinatorCrashedNow
+    }
+}
+
 #[cfg(test)]
 mod tests {
     use super::*;
     use crate::patterns::failure_patterns;
     use crate::process::Process;
     use crate::simulation::Simulation;
+
+    fn small_tickets() -> impl Iterator<Item = Ticket> {
+        [(1, 0), (2, 1), (3, 2), (4, 3)].into_iter().flat_map(|(n, t)| {
+            let proposals: Vec<u32> = (1..=u32::from(n)).collect();
+            let patterns = failure_patterns(n, t).into_iter();
+            patterns.map(move |failures| Ticket { n, t, proposals: proposals.clone(), failures })
+        })
+    }
 
     fn run(ticket: &Ticket) -> (Vec<Status>, Vec<MessageCounts>) {
         let mut simulation = Simulation::new(ticket);
@@ -99,17 +130,27 @@ mod tests {
 
     #[test]
     fn every_small_run_is_recounted() {
-        for (n, t) in [(1, 0), (2, 1), (3, 2), (4, 3)] {
-            for failures in failure_patterns(n, t) {
-                let proposals = (1..=u32::from(n)).collect();
-                let ticket = Ticket { n, t, proposals, failures };
-                let (ends, carried) = run(&ticket);
-                for (id, &carried) in (1..).zip(&carried) {
-                    let end = ends[usize::from(id) - 1];
-                    let all = counted(&ticket, &ends, id, |_| true);
-                    assert_eq!(all, sent(&ticket, end, id), "process {id} of {ticket}");
-                    let up = counted(&ticket, &ends, id, |end| end_round(end) >= id);
-                    assert_eq!(up, carried, "process {id} of {ticket}");
+        for ticket in small_tickets() {
+            let (ends, carried) = run(&ticket);
+            for (id, &carried) in (1..).zip(&carried) {
+                let end = ends[usize::from(id) - 1];
+                let all = counted(&ticket, &ends, id, |_| true);
+                assert_eq!(all, sent(&ticket, end, id), "process {id} of {ticket}");
+                let up = counted(&ticket, &ends, id, |end| end_round(end) >= id);
+                assert_eq!(up, carried, "process {id} of {ticket}");
+            }
+        }
+    }
+
+    #[test]
+    fn every_small_run_has_its_reasons() {
+        for ticket in small_tickets() {
+            let (ends, _) = run(&ticket);
+            let mut simulation = Simulation::new(&ticket);
+            while let Some(round) = simulation.next_round() {
+                for (id, told) in (1..).zip(simulation.reasons()) {
+                    let by_ends = reason(&ticket, &ends, id, round);
+                    assert_eq!(told, by_ends, "process {id} in round {round} of {ticket}");
                 }
             }
         }

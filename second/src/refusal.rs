@@ -1,4 +1,4 @@
-//! Refusals (01, "Refused calls, by operation").
+//! Refusals (01, "Refused calls, by operation"; 02, Paper 7).
 
 use std::fmt;
 
@@ -30,6 +30,8 @@ pub enum Reason {
     NotOpen = 11,
     /// What was heard cannot have been sent to this process in this round.
     InvalidHearing = 12,
+    /// No such process, or no such round in the run (02, Paper 7).
+    OutsideTheRun = 13,
 }
 
 impl Reason {

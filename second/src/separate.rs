@@ -31,6 +31,10 @@ pub struct SeparateRun {
     /// Whether at the end of a round, from round 1 to t + 1, all processes that have
     /// not crashed hold one value.
     pub one_value: Vec<bool>,
+    /// The reason of each process in order, by the bytes that its part closes on, in
+    /// each round from 1 to t + 1; 0 for one that hears nothing of a coordinator that has
+    /// neither crashed before nor crashes.
+    pub reasons: Vec<Vec<u8>>,
 }
 
 /// One process: its state, and what it has heard in this round.
@@ -77,23 +81,41 @@ impl Local {
 }
 
 /// What becomes of each process, with the value it decides and what was carried
-/// of its messages, and when all hold one value, if `module` is asked for each of
-/// them in each round. An error says which call was refused.
+/// of its messages, when all hold one value, and the reasons, if `module` is asked for
+/// each of them in each round. An error says which call was refused.
 pub fn run_separately(module: &mut impl Agreement, ticket: &Ticket) -> Result<SeparateRun, String> {
     let mut locals = start_all(module, ticket)?;
     let mut one_value = Vec::with_capacity(usize::from(ticket.t) + 1);
+    let mut reasons = Vec::with_capacity(usize::from(ticket.t) + 1);
     for round in 1..=ticket.t + 1 {
         for sender in 0..locals.len() {
             if locals[sender].is_active() {
                 speak(module, &mut locals, sender, round)?;
             }
         }
+        reasons.push(locals.iter().map(|local| reason(&locals, local, round)).collect());
         for local in &mut locals {
             close(module, local, round)?;
         }
         one_value.push(hold_one_value(&locals));
     }
-    Ok(SeparateRun { ends: locals.iter().map(Local::end).collect(), one_value })
+    Ok(SeparateRun { ends: locals.iter().map(Local::end).collect(), one_value, reasons })
+}
+
+/// Why a process will stand where it does when the round is closed (02, Paper 7): by
+/// its state and crash, and else by how many bytes it has heard.
+fn reason(locals: &[Local], local: &Local, round: u8) -> u8 {
+    let coordinator = &locals[usize::from(round) - 1];
+    match local.heard.len() {
+        _ if !local.is_active() => 7,
+        _ if local.crashes_in(round) => 6,
+        _ if local.id == round => 1,
+        SPEECH_LENGTH => 2,
+        DATA_LENGTH => 3,
+        _ if coordinator.crashed.is_some() => 4,
+        _ if coordinator.crashes_in(round) => 5,
+        _ => 0,
+    }
 }
 
 /// Whether all processes that have not crashed hold one value.

@@ -1,6 +1,7 @@
 //! A whole run, round by round (01, "A round").
 
-use crate::process::Process;
+use crate::process::{Course, Process};
+use crate::round_reason::RoundReason;
 use crate::switch::{Fate, Switch, Uplink};
 use crate::ticket::Ticket;
 
@@ -23,6 +24,7 @@ pub struct Totals {
 #[derive(Clone, Debug, Default)]
 pub struct Simulation {
     processes: Vec<Process>,
+    courses: Vec<Course>,
     switch: Switch,
     rounds: u8,
     speakers: u8,
@@ -72,10 +74,17 @@ impl Simulation {
         }
         self.rounds += 1;
         self.send_phase(self.rounds);
-        for process in &mut self.processes {
-            process.end_round(self.rounds);
-        }
-        Some(self.rounds)
+        let round = self.rounds;
+        self.courses.clear();
+        self.courses.extend(self.processes.iter_mut().map(|process| process.end_round(round)));
+        Some(round)
+    }
+
+    /// The reason of each process, in order, in the round that was run last (02, Paper
+    /// 7): what was in its mailbox, or what became of it, and of the coordinator.
+    pub fn reasons(&self) -> impl Iterator<Item = RoundReason> + '_ {
+        let coordinator = self.courses[usize::from(self.rounds) - 1];
+        self.courses.iter().map(move |&course| RoundReason::of(course, coordinator))
     }
 
     /// The coordinator of `round` sends, if it is active, until it crashes.

@@ -1,8 +1,9 @@
-//! The operations on a ticket's text: running it, and settling.
+//! The operations on a ticket's text: running it, settling, and giving reasons.
 
 use crate::process::Process;
 use crate::refusal::{Reason, Refusal};
 use crate::report::{result_length, write_result};
+use crate::round_reason::RoundReason;
 use crate::simulation::Simulation;
 use crate::ticket::Ticket;
 
@@ -58,6 +59,43 @@ impl Simulator {
                 return Ok(round);
             }
         }
+    }
+
+    /// The reason of a process in a round (02, Paper 7): the run goes no further.
+    /// Refusals 1 to 8, and then 13.
+    pub fn reason(
+        &mut self,
+        text: &[u8],
+        process: u64,
+        round: u64,
+    ) -> Result<RoundReason, Refusal> {
+        self.ticket.read(text)?;
+        if !(1..=u64::from(self.ticket.n)).contains(&process) {
+            return Err(Reason::OutsideTheRun.at_no_line());
+        }
+        self.simulation.reset(&self.ticket);
+        while let Some(done) = self.simulation.next_round() {
+            if u64::from(done) == round {
+                let mut reasons = self.simulation.reasons();
+                return Ok(reasons.nth(process as usize - 1).expect("one for each process"));
+            }
+        }
+        Err(Reason::OutsideTheRun.at_no_line())
+    }
+
+    /// Writes the reasons of all processes in all rounds of the run, round by round, to
+    /// the beginning of `output` and says how many they are, or refuses (1 to 9) and
+    /// writes nothing.
+    pub fn reasons(&mut self, text: &[u8], output: &mut [u8]) -> Result<usize, Refusal> {
+        self.ticket.read(text)?;
+        self.simulation.reset(&self.ticket);
+        let mut numbers = Vec::new();
+        while self.simulation.next_round().is_some() {
+            numbers.extend(self.simulation.reasons().map(RoundReason::number));
+        }
+        let room = output.get_mut(..numbers.len());
+        room.ok_or(Reason::OutputTooShort.at_no_line())?.copy_from_slice(&numbers);
+        Ok(numbers.len())
     }
 
     /// What the program prints for `text` with an output of `room` bytes: the

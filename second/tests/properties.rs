@@ -1,17 +1,19 @@
-//! What demands 2 and 3, the paper's bound and Papers 1, 2, 4 and 6 of document 02
+//! What demands 2 and 3, the paper's bound and Papers 1, 2, 4, 6 and 7 of document 02
 //! claim of every run, tried on random tickets.
 
 use std::collections::BTreeSet;
 
 use second::generate;
-use second::process::{MessageCounts, Process, Status};
-use second::recount::{counted, crashed_before, crashes_in, decided_before, sent};
+use second::process::{Message, MessageCounts, Process, Status};
+use second::recount::{self, counted, crashed_before, crashes_in, decided_before, sent};
 use second::report::result_length;
 use second::rng::Rng;
+use second::round_reason::MOST_REASONS;
 use second::separate::{run_separately, End};
 use second::simulation::{Simulation, Totals};
+use second::switch::{Fate, Uplink};
 use second::ticket::{Crash, Ticket, MOST_PROCESSES};
-use second::Simulator;
+use second::{RoundReason, Simulator};
 
 /// What becomes of each process, with the value it decides, and the totals.
 fn run(ticket: &Ticket) -> (Vec<(Status, u32)>, Totals) {
@@ -264,5 +266,150 @@ fn separate_local_parts_settle_alike() {
         let by_parts = (1..).zip(&separate.one_value[..rounds_of_run]);
         let by_parts: Vec<u8> = by_parts.filter(|(_, &one)| one).map(|(round, _)| round).collect();
         assert_eq!(by_parts, rounds, "{ticket}");
+    }
+}
+
+/// Whether each process hears the value, and whether a commit, in a round that begins
+/// so: what the coordinator's line lets out, to those that are up and undecided and do
+/// not crash in it.
+fn heard(round: u8, before: &[Process]) -> Vec<[bool; 2]> {
+    let coordinator = &before[usize::from(round) - 1];
+    let mut heard = vec![[false; 2]; before.len()];
+    if !coordinator.is_active() {
+        return heard;
+    }
+    let mut uplink = Uplink::new(coordinator.crash_in(round));
+    for (to, message) in coordinator.messages(before.len() as u8) {
+        let recipient = &before[usize::from(to) - 1];
+        let hears = recipient.is_active() && recipient.crash_in(round).is_none();
+        if uplink.fate(to, message) == Fate::Sent && hears {
+            heard[usize::from(to) - 1][usize::from(message == Message::Commit)] = true;
+        }
+    }
+    heard
+}
+
+/// Which of the seven reasons are true, in the words of Paper 7, of a process in a
+/// round that begins and ends so.
+fn true_reasons(round: u8, id: u8, before: &[Process], after: &[Process]) -> Vec<u8> {
+    let place = usize::from(id) - 1;
+    let coordinator = usize::from(round) - 1;
+    let stays_up = before[place].is_active() && !after[place].has_crashed();
+    let decides = before[place].is_active() && after[place].status() == Status::Decided(round);
+    let [value, commit] = heard(round, before)[place];
+    let crashed_before = before[coordinator].has_crashed();
+    let crashes = after[coordinator].status() == Status::Crashed(round);
+    let reasons = [
+        id == round && decides,
+        stays_up && value && commit,
+        stays_up && value && !commit,
+        stays_up && !value && !commit && crashed_before,
+        stays_up && !value && !commit && crashes,
+        after[place].status() == Status::Crashed(round),
+        !before[place].is_active(),
+    ];
+    (1..).zip(reasons).filter(|(_, is_true)| *is_true).map(|(reason, _)| reason).collect()
+}
+
+/// 02, Paper 7: exactly one reason applies, and it is the one that is given, process by
+/// process and all at once; so it is by how the processes end.
+#[test]
+fn the_reason_given_is_the_one_that_applies() {
+    let mut simulator = Simulator::new();
+    let mut tried = [0; 8];
+    for (mut rng, ticket) in random_tickets(12) {
+        let ends: Vec<Status> = run(&ticket).0.into_iter().map(|(status, _)| status).collect();
+        let mut simulation = Simulation::new(&ticket);
+        let mut told = Vec::new();
+        loop {
+            let before = simulation.processes().to_vec();
+            let Some(round) = simulation.next_round() else { break };
+            let reasons: Vec<RoundReason> = simulation.reasons().collect();
+            for (id, &reason) in (1..=ticket.n).zip(&reasons) {
+                let applies = true_reasons(round, id, &before, simulation.processes());
+                assert_eq!(applies, [reason.number()], "process {id}, round {round}: {ticket}");
+                let by_ends = recount::reason(&ticket, &ends, id, round);
+                assert_eq!(reason, by_ends, "process {id}, round {round}: {ticket}");
+                tried[usize::from(reason.number())] += 1;
+            }
+            let one = rng.between(1, ticket.n);
+            let given = simulator.reason(&ticket.text(), one.into(), round.into());
+            assert_eq!(given, Ok(reasons[usize::from(one) - 1]), "round {round}: {ticket}");
+            told.extend(reasons.into_iter().map(RoundReason::number));
+        }
+        let mut output = vec![0; told.len()];
+        assert_eq!(simulator.reasons(&ticket.text(), &mut output), Ok(told.len()), "{ticket}");
+        assert_eq!(output, told, "{ticket}");
+    }
+    assert!(tried[1..].iter().all(|&count| count > 1000), "{tried:?}");
+}
+
+/// A process decides in the round of its reason 1 or 2 and crashes in that of its
+/// reason 6; it has one of these once, 3, 4 or 5 in every earlier round, and 7 in every
+/// later one.
+#[test]
+fn reasons_tell_how_and_when_each_process_ends() {
+    let mut simulator = Simulator::new();
+    for (_, ticket) in random_tickets(13) {
+        let mut output = vec![0; MOST_REASONS];
+        let written = simulator.reasons(&ticket.text(), &mut output).expect("an accepted ticket");
+        let (ends, totals) = run(&ticket);
+        let n = usize::from(ticket.n);
+        assert_eq!(written, n * usize::from(totals.rounds), "{ticket}");
+        for (place, (status, _)) in ends.into_iter().enumerate() {
+            let reasons = output[..written].chunks(n).map(|of_round| of_round[place]);
+            let (end, endings): (u8, &[u8]) = match status {
+                Status::Decided(round) if usize::from(round) == place + 1 => (round, &[1]),
+                Status::Decided(round) => (round, &[2]),
+                Status::Crashed(round) => (round, &[6]),
+                Status::Active => panic!("{ticket}"),
+            };
+            for (round, reason) in (1..).zip(reasons) {
+                let allowed: &[u8] = match round {
+                    _ if round < end => &[3, 4, 5],
+                    _ if round > end => &[7],
+                    _ => endings,
+                };
+                assert!(allowed.contains(&reason), "process {}: {ticket}", place + 1);
+            }
+        }
+    }
+}
+
+/// No reason is given of a process or a round that there is not, however large its
+/// number; and a refused ticket has its refusal whatever is asked.
+#[test]
+fn reasons_outside_the_run_are_refused_with_13() {
+    let mut simulator = Simulator::new();
+    for (mut rng, ticket) in random_tickets(14).take(1000) {
+        let (n, rounds) = (u64::from(ticket.n), u64::from(run(&ticket).1.rounds));
+        let large = [257, 0x1_0000_0001, u64::MAX];
+        let asked = [(0, 1), (n + 1, 1), (1, 0), (1, rounds + 1), (n, u64::from(ticket.t) + 2)];
+        let asked = asked.into_iter().chain(large.map(|process| (process, 1)));
+        for (process, round) in asked.chain(large.map(|round| (1, round))) {
+            let refusal = simulator.reason(&ticket.text(), process, round).expect_err("a refusal");
+            assert_eq!(refusal.to_string(), "1F0D0000", "{process} {round}: {ticket}");
+        }
+        let damaged = generate::damaged(&mut rng, &ticket);
+        if let Err(refusal) = simulator.settling_round(&damaged) {
+            for (process, round) in [(1, 1), (0, 0), (u64::MAX, u64::MAX)] {
+                assert_eq!(simulator.reason(&damaged, process, round), Err(refusal));
+            }
+            assert_eq!(simulator.reasons(&damaged, &mut []), Err(refusal));
+        }
+    }
+}
+
+/// What separate parts hear, round by round, gives the same reasons.
+#[test]
+fn separate_local_parts_have_the_same_reasons() {
+    let mut simulator = Simulator::new();
+    for (_, ticket) in random_tickets(15) {
+        let separate = run_separately(&mut simulator, &ticket).expect("no refusal");
+        let mut output = vec![0; MOST_REASONS];
+        let written = simulator.reasons(&ticket.text(), &mut output).expect("an accepted ticket");
+        let by_parts = separate.reasons.concat();
+        assert_eq!(by_parts[..written], output[..written], "{ticket}");
+        assert!(by_parts[written..].iter().all(|&reason| reason == 7), "{ticket}");
     }
 }

@@ -6,7 +6,7 @@
 //! and both without the counts of line 12. The counts of before Paper 4 are compared
 //! by themselves, with what is carried and what is dropped. Of the rounds that
 //! base.jsonl says qualify for settling, the first is the settling round; paper-06.jsonl
-//! says it by itself.
+//! says it by itself. paper-07.jsonl has the reasons of whole runs and single ones.
 
 mod json;
 
@@ -122,9 +122,7 @@ fn settling_rounds_of_paper_6() {
         let text = vector.written("ticket").expect(&about);
         let settled = simulator.settle(&text);
         if vector.has("refusal") {
-            let refusal = vector.object("refusal");
-            let [number, line] = ["number", "line"].map(|name| refusal.number(name));
-            assert_eq!(settled, number * REFUSED + line, "{about}");
+            assert_eq!(settled, refused(vector), "{about}");
             continue;
         }
         let [round, rounds] = ["settling_round", "run_rounds"].map(|name| vector.number(name));
@@ -136,6 +134,67 @@ fn settling_rounds_of_paper_6() {
     }
     let figures = [vectors.len(), accepted, before_the_last];
     assert!(vectors.len() >= 290 && accepted >= 185 && before_the_last >= 67, "{figures:?}");
+}
+
+/// The answer that a vector's refusal is.
+fn refused(vector: &Object) -> u64 {
+    let refusal = vector.object("refusal");
+    let [number, line] = ["number", "line"].map(|name| refusal.number(name));
+    number * REFUSED + line
+}
+
+/// The reasons of a whole run: each by itself and all at once, into an output of just
+/// that length, of more, and of less, which is refused.
+fn reasons_of_a_run(simulator: &mut Simulator, text: &[u8], rounds: &[Vec<u64>], about: &str) {
+    let [n, last] = [rounds[0].len(), rounds.len()].map(|count| count as u64);
+    for (round, reasons) in (1..).zip(rounds) {
+        for (process, &reason) in (1..).zip(reasons) {
+            assert_eq!(Agreement::reason(simulator, text, process, round), reason, "{about}");
+        }
+    }
+    for (process, round) in [(n + 1, 1), (1, last + 1), (0, last), (n, 0)] {
+        let answer = Agreement::reason(simulator, text, process, round);
+        assert_eq!(answer, 13 * REFUSED, "process {process}, round {round}: {about}");
+    }
+    let all: Vec<u8> = rounds.iter().flatten().map(|&reason| reason as u8).collect();
+    for more in [0, 1, 100] {
+        let mut output = vec![0xEE; all.len() + more];
+        let answer = Agreement::reasons(simulator, text, &mut output);
+        assert_eq!(answer, all.len() as u64, "{about}");
+        assert!(output.starts_with(&all), "{about}");
+        assert!(output[all.len()..].iter().all(|&byte| byte == 0xEE), "{about}");
+    }
+    let mut short = vec![0xEE; all.len() - 1];
+    assert_eq!(Agreement::reasons(simulator, text, &mut short), 9 * REFUSED, "{about}");
+    assert!(short.iter().all(|&byte| byte == 0xEE), "{about}");
+}
+
+#[test]
+fn reasons_of_paper_7() {
+    let mut simulator = Simulator::new();
+    let vectors = vectors("paper-07.jsonl");
+    let (mut runs, mut outside, mut shown) = (0, 0, [0; 8]);
+    for (line, vector) in (1..).zip(&vectors) {
+        let about = format!("line {line}: {}", vector.text("about"));
+        let text = vector.written("ticket").expect(&about);
+        if vector.has("reasons_by_round_then_station") {
+            let rounds = vector.lists("reasons_by_round_then_station");
+            reasons_of_a_run(&mut simulator, &text, rounds, &about);
+            rounds.iter().flatten().for_each(|&reason| shown[reason as usize] += 1);
+            runs += 1;
+            continue;
+        }
+        let [process, round] = ["station", "round"].map(|name| vector.number(name));
+        let right = if vector.has("refusal") { refused(vector) } else { vector.number("reason") };
+        assert_eq!(Agreement::reason(&mut simulator, &text, process, round), right, "{about}");
+        outside += usize::from(right == 13 * REFUSED);
+        if right >= REFUSED && right != 13 * REFUSED {
+            assert_eq!(Agreement::reasons(&mut simulator, &text, &mut []), right, "{about}");
+        }
+    }
+    let figures = [vectors.len(), runs, outside];
+    assert!(vectors.len() >= 290 && runs >= 173 && outside >= 10, "{figures:?}");
+    assert!(shown[0] == 0 && shown[1..].iter().all(|&count| count > 50), "{shown:?}");
 }
 
 fn sum_of(a: [u16; 2], b: [u16; 2]) -> [u16; 2] {

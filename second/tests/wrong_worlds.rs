@@ -163,6 +163,30 @@ fn the_figures_of_the_worked_runs() {
     }
 }
 
+/// The reasons of cases 1 and 6 (02, Paper 7), which have all seven, and what the
+/// nearest mistakes make of them.
+#[test]
+fn the_reasons_of_cases_1_and_6() {
+    let case_1 = [[6, 3, 3, 2], [7, 1, 2, 7]].concat();
+    let case_6 = [[6, 6, 5, 5], [7, 7, 4, 4], [7, 7, 1, 2]].concat();
+    assert_eq!(said_under(&RIGHT, "case 1").reasons, case_1);
+    assert_eq!(said_under(&RIGHT, "case 6").reasons, case_6);
+    let figures = [
+        (
+            "coordinator/reasons-4-and-5-swapped",
+            "case 6",
+            [6, 6, 4, 4, 7, 7, 5, 5, 7, 7, 1, 2].as_slice(),
+        ),
+        ("coordinator/crashing-coordinator-has-reason-1", "case 1", &[1, 3, 3, 2, 7, 1, 2, 7]),
+        ("who hears a coordinator that crashes has reason 5", "case 1", &[6, 5, 5, 5, 7, 1, 2, 7]),
+        ("coordinator/crash-in-the-round-is-reason-7", "case 1", &[7, 3, 3, 2, 7, 1, 2, 7]),
+        ("coordinator/who-decides-has-reason-7-in-that-round", "case 1", &[6, 3, 3, 7, 7, 7, 7, 7]),
+    ];
+    for (world, run, reasons) in figures {
+        assert_eq!(said(world, run).reasons, reasons, "{world}");
+    }
+}
+
 /// 01, "Mistakes this must shut out".
 #[test]
 fn the_five_mistakes_in_worked_cases() {

@@ -5,32 +5,31 @@ use Prim.Native.Nat.{ℕ}
 use native.Mathlib.Omega.{arith}
 use Rattle.formats.specs.Reading.{Reading, accepted, refused}
 use Rattle.running.specs.Answer.{answerOf}
-use Rattle.running.specs.Settling.{settlingOf}
 use Rattle.running.specs.declared.RunAnswer.{RunAnswer}
 use Rattle.running.specs.declared.RunAnswer.the-variants.{Written, Refused}
-use Rattle.running.specs.declared.SettleAnswer.{SettleAnswer}
-use Rattle.formats.specs.Code.{refusalCode, runCode, settleCode}
+use Rattle.formats.specs.Code.{codeOf, refusalCode, sizeCode, numberCode}
 
 module _ (answer : RunAnswer) where
-  pub written-code : (a : Reading (List ℕ)) (size : ℕ) → answer ≡ answerOf a → answer ≡ Written size → size ≡ runCode a
-  unfolding answerOf runCode
+  pub written-code : (a : Reading (List ℕ)) (size : ℕ) → answer ≡ answerOf a → answer ≡ Written size → size ≡ sizeCode a
+  unfolding answerOf codeOf
   written-code (accepted result) size e g = cc
   written-code (refused number line) size e g = cc
 
   pub refused-code : (a : Reading (List ℕ)) (number line code : ℕ) → answer ≡ answerOf a → answer ≡ Refused number line → code ≡ refusalCode number line
-      → code ≡ runCode a
-  unfolding answerOf runCode
+      → code ≡ sizeCode a
+  unfolding answerOf codeOf
   refused-code (accepted result) number line code e g c = cc
   refused-code (refused number′ line′) number line code e g c =
       let same : number ≡ number′ = cc in
       let place : line ≡ line′ = cc in
       omega arith
 
-module _ (answer : SettleAnswer) (a : Reading ℕ) (same : settlingOf answer ≡ a) where
-  pub round-code : (r : ℕ) → answer ≡ SettleAnswer.Round r → r ≡ settleCode a
-  unfolding settlingOf settleCode
-  round-code r e = rw (← same, e) refl
+-- Of a call that answers a number; `known` is what its answer is read as.
+module _ (known a : Reading ℕ) (same : known ≡ a) where
+  pub number-code : (k : ℕ) → known ≡ accepted k → k ≡ numberCode a
+  unfolding codeOf
+  number-code k e = rw (← same, e) refl
 
-  pub settle-refused-code : (number line code : ℕ) → answer ≡ SettleAnswer.Refused number line → code ≡ refusalCode number line → code ≡ settleCode a
-  unfolding settlingOf settleCode
-  settle-refused-code number line code e c = rw (← same, e) c
+  pub refused-number-code : (number line code : ℕ) → known ≡ refused number line → code ≡ refusalCode number line → code ≡ numberCode a
+  unfolding codeOf
+  refused-number-code number line code e c = rw (← same, e) c

@@ -6,7 +6,9 @@ ghost use Rattle.part_format.specs.Speak.{speakAnswer, speakOutput};
 ghost use Rattle.part_format.specs.Close.{closeRefusal, closeState};
 ghost use Prim.Native.Nat.{_+_, _*_};
 ghost use Rattle.formats.specs.Settle.{settling};
-ghost use Rattle.formats.specs.Code.{placedCode, RunCall, settleCode};
+ghost use Rattle.formats.specs.Reason.{reason};
+ghost use Rattle.formats.specs.Code.{placedCode, RunCall, ReasonsCall, numberCode};
+use reasons::ReasonAnswer;
 use running::RunAnswer;
 use running::SettleAnswer;
 
@@ -38,12 +40,36 @@ pub extern "C" fn uc_run(ticket: &[u8], output: &mut [u8]) -> u64
 // Names the settling round of a ticket, the lowest that qualifies; or 65536 times the refusal plus its line.
 #[no_mangle]
 pub extern "C" fn uc_settle(ticket: &[u8]) -> u64
-    ensures { λ r. ⌜ r ≡ settleCode (settling (now (ticket .entry))) ⌝ }
+    ensures { λ r. ⌜ r ≡ numberCode (settling (now (ticket .entry))) ⌝ }
 {
     let answer = running::settle(ticket);
     match answer {
         SettleAnswer::Round(round) => round as u64,
         SettleAnswer::Refused(number, line) => refusal_code(0, number, line),
+    }
+}
+
+// Gives the reason of a process in a round of a ticket's run, 1 to 7; or 65536 times the refusal plus its line.
+#[no_mangle]
+pub extern "C" fn uc_reason(ticket: &[u8], process: u64, round: u64) -> u64
+    ensures { λ r. ⌜ r ≡ numberCode (reason (now (ticket .entry)) process round) ⌝ }
+{
+    let answer = reasons::reason_of(ticket, process, round);
+    match answer {
+        ReasonAnswer::Reason(known) => known as u64,
+        ReasonAnswer::Refused(number, line) => refusal_code(0, number, line),
+    }
+}
+
+// Writes the reasons of all processes in all rounds of a ticket's run: how many there are, or 65536 times the refusal plus its line.
+#[no_mangle]
+pub extern "C" fn uc_reasons(ticket: &[u8], reasons: &mut [u8]) -> u64
+    ensures { λ r. ⌜ ReasonsCall (now (ticket .entry)) (now (reasons .entry)) (now (reasons .exit)) r ⌝ }
+{
+    let answer = reasons::all_reasons(ticket, reasons);
+    match answer {
+        RunAnswer::Written(count) => count as u64,
+        RunAnswer::Refused(refusal, wrong_line) => refusal_code(0, refusal, wrong_line),
     }
 }
 

@@ -22,7 +22,7 @@ struck-in r correct h = absurd (let z : _≡_ {A = ℕ} 0 1 = cc in let w : ⊥ 
 struck-in r (crashes round point) h = (point, let same : round ≡ r = eqb-true round r h in rw same)
 
 -- No outcome is a crash.
-outcome-up : (r j : ℕ) (o : Outcome) → afterOutcome r o ≡ crashed j → ⊥
+pub outcome-up : (r j : ℕ) (o : Outcome) → afterOutcome r o ≡ crashed j → ⊥
 unfolding afterOutcome
 outcome-up r j (continues v) e = undecided-crashed _ v j refl e
 outcome-up r j (decides v) e = decided-crashed _ r v j refl e

@@ -17,6 +17,7 @@ use Rattle.coordinator.specs.Undecided.{isUndecided}
 use Rattle.coordinator.specs.Count.{speaks, carries, carriedIn, dataIn, commitsIn}
 use Rattle.coordinator.specs.Run.{Run, withRound}
 use Rattle.coordinator.proofs.Pointwise.{states-ext, round-state}
+use Rattle.coordinator.specs.Reason.{reasonFrom}
 use Rattle.coordinator.proofs.Rounds.{nothing-arrives}
 use Rattle.coordinator.proofs.Delivery.{reach-up}
 
@@ -48,9 +49,22 @@ module _ (r : ℕ) {fault fault′ : Fault} where
   received-alike n p (decided i v) alike = nothing-arrives _ ∙ sym (nothing-arrives _)
   received-alike n p (crashed i) alike = nothing-arrives _ ∙ sym (nothing-arrives _)
 
+  -- Why it stands where it stands: as what it becomes.
+  reason-from-alike : (p : ℕ) (m : Messages) (c s : State) → (isUndecided s ≡ true → AlikeIn r fault fault′)
+      → reasonFrom r p fault m c s ≡ reasonFrom r p fault′ m c s
+  unfolding isUndecided reasonFrom
+  reason-from-alike p m c (undecided v) alike = rw (crashes-alike (alike refl))
+  reason-from-alike p m c (decided i v) alike = refl
+  reason-from-alike p m c (crashed i) alike = refl
+
 -- One round of two instances from the same states: `alike` says that it does not tell the faults apart of a process that begins it undecided.
 module _ (x y : Instance) (size : x .processes ≡ y .processes) (r : ℕ) (states : List State) (first : 1 ≤ r) (last : r ≤ length states)
     (alike : (p : ℕ) → 1 ≤ p → p ≤ length states → isUndecided (stateOf states p) ≡ true → AlikeIn r (faultOf x p) (faultOf y p)) where
+  -- What a process receives is the same in both.
+  heard-alike : (p : ℕ) → received (x .processes) r (faultOf x r) (stateOf states r) p ≡ received (y .processes) r (faultOf y r) (stateOf states r) p
+  heard-alike p =
+      ap (λ (n : ℕ). received n r (faultOf x r) (stateOf states r) p) size ∙ received-alike r (y .processes) p (stateOf states r) (alike r first last)
+
   states-alike : statesAfter x r states ≡ statesAfter y r states
   unfolding statesAfter
   states-alike =
@@ -61,9 +75,15 @@ module _ (x y : Instance) (size : x .processes ≡ y .processes) (r : ℕ) (stat
           → after r p (faultOf x p) (received (x .processes) r (faultOf x r) (stateOf states r) p) (stateOf states p)
           ≡ after r p (faultOf y p) (received (y .processes) r (faultOf y r) (stateOf states r) p) (stateOf states p)
       at-process p h g =
-          ap (λ (m : Messages). after r p (faultOf x p) m (stateOf states p))
-          (ap (λ (n : ℕ). received n r (faultOf x r) (stateOf states r) p) size ∙ received-alike r (y .processes) p (stateOf states r) (alike r first last))
-          ∙ after-alike r p _ (stateOf states p) (alike p h g)
+          ap (λ (m : Messages). after r p (faultOf x p) m (stateOf states p)) (heard-alike p) ∙ after-alike r p _ (stateOf states p) (alike p h g)
+
+  -- So is its reason.
+  pub reason-alike : (p : ℕ) → 1 ≤ p → p ≤ length states
+      → reasonFrom r p (faultOf x p) (received (x .processes) r (faultOf x r) (stateOf states r) p) (stateOf states r) (stateOf states p)
+      ≡ reasonFrom r p (faultOf y p) (received (y .processes) r (faultOf y r) (stateOf states r) p) (stateOf states r) (stateOf states p)
+  reason-alike p h g =
+      ap (λ (m : Messages). reasonFrom r p (faultOf x p) m (stateOf states r) (stateOf states p)) (heard-alike p)
+      ∙ reason-from-alike r p _ (stateOf states r) (stateOf states p) (alike p h g)
 
   -- What is counted: the coordinator's fault matters only if it speaks.
   carried-alike : (gets : Reach → Bool) → carriedIn gets x r states ≡ carriedIn gets y r states

@@ -3,7 +3,7 @@
 use mathlib.Core.List.{List, [], _∷_}
 use mathlib.Core.Path.{_≡_, refl, sym, ap, ap₂, _∙_}
 use mathlib.Core.Bool.{Bool, true, false, cond}
-use Prim.Native.Nat.{ℕ, zero, suc, _+_, _≤_, _<_}
+use Prim.Native.Nat.{ℕ, zero, suc, _+_, _-_, _≤_, _<_}
 use native.Mathlib.Omega.{arith}
 use native.Mathlib.Nat.{le-trans}
 use lib.Dec.{ltb}
@@ -15,7 +15,7 @@ use Rattle.general.proofs.Indexed.{length-mapFrom, mapFrom-at}
 use Rattle.general.proofs.Tests.{by-order}
 use Rattle.general.proofs.Search.{found-same}
 use Rattle.consensus.specs.Instance.{Instance, Fault, correct, crashes, faultOf}
-use Rattle.consensus.specs.State.{State, undecided, decided, crashed, crashesIn}
+use Rattle.consensus.specs.State.{State, undecided, decided, crashed, stateOf, crashesIn}
 use Rattle.consensus.specs.CrashCount.{isIdle, crashedCount}
 use Rattle.consensus.specs.WellFormed.{FaultAllowedBy, faultCount}
 use Rattle.consensus.specs.Consensus.{IsProcess}
@@ -24,6 +24,8 @@ use Rattle.coordinator.specs.Count.{dataIn, commitsIn}
 use Rattle.coordinator.specs.WellFormed.{FaultAllowed, WellFormed}
 use Rattle.coordinator.specs.MessagesBySender.{sentAfter, dataBy, commitsBy}
 use Rattle.coordinator.specs.Settling.{qualifies, firstSettling}
+use Rattle.coordinator.specs.Undecided.{isUndecided}
+use Rattle.coordinator.specs.Reason.{stateAtStart, heardIn, reasonOf}
 use Rattle.coordinator.specs.IdleLines.{faultLeft, withoutIdle, IdleLinesChangeNothing}
 use Rattle.coordinator.proofs.Pointwise.{stateAt, length-states, state-at}
 use Rattle.coordinator.proofs.History.{undecided-decided, decided-later}
@@ -31,7 +33,7 @@ use Rattle.coordinator.proofs.Coordinator.{decided-since}
 use Rattle.coordinator.proofs.Undecided.{value-of-undecided}
 use Rattle.coordinator.proofs.Ends.{end-at}
 use Rattle.coordinator.proofs.CrashCount.{crashes-are-crashed}
-use Rattle.coordinator.proofs.FaultsAlike.{AlikeIn, same, ofOthers, round-alike}
+use Rattle.coordinator.proofs.FaultsAlike.{AlikeIn, same, ofOthers, round-alike, reason-alike}
 
 module _ (x : Instance) where
   -- A process that is undecided after round r decides in a later one, if at all.
@@ -102,6 +104,16 @@ module _ (x : Instance) (formed : WellFormed x) where
         few-faults = le-trans (faults-fewer (endOf x) 1 (x .pattern)) (formed .few-faults);
       }
 
+  -- No round tells the faults apart of a process that begins it undecided.
+  idle-alike : (r p : ℕ) → suc r ≤ lastRound x → 1 ≤ p → p ≤ length (runTo x r .states) → isUndecided (stateOf (runTo x r .states) p) ≡ true
+      → AlikeIn (suc r) (faultOf (withoutIdle x) p) (faultOf x p)
+  idle-alike r p h first last u =
+      let as-many : length (runTo x r .states) ≡ x .processes = length-states x r ∙ formed .all-propose in
+      let (w, e) = value-of-undecided _ u in
+      let process : IsProcess x p = record { first = first; last = omega arith } in
+      let waits : stateAt x r p ≡ undecided w = sym (state-at x r p (omega arith) first (omega arith)) ∙ e in
+      rw (fault-left p process) (left-alike x formed r p w (omega arith) process waits (faultOf x p))
+
   -- The runs are the same after every round.
   runs-same : (r : ℕ) → r ≤ lastRound x → runTo (withoutIdle x) r ≡ runTo x r
   unfolding runTo initial withoutIdle
@@ -110,11 +122,7 @@ module _ (x : Instance) (formed : WellFormed x) where
       let as-many : length (runTo x r .states) ≡ x .processes = length-states x r ∙ formed .all-propose in
       ap (withRound (withoutIdle x) (suc r)) (runs-same r (omega arith))
       ∙ round-alike (withoutIdle x) x refl (suc r) (runTo x r) (omega arith) (omega arith)
-      (λ p first last u.
-      let (w, e) = value-of-undecided _ u in
-      let process : IsProcess x p = record { first = first; last = omega arith } in
-      let waits : stateAt x r p ≡ undecided w = sym (state-at x r p (omega arith) first (omega arith)) ∙ e in
-      rw (fault-left p process) (left-alike x formed r p w (omega arith) process waits (faultOf x p)))
+      (λ p first last u. idle-alike r p h first last u)
 
   -- What a round counts is what it adds to the total, so each process sends as many messages of a kind in both.
   sent-same : (counted : Instance → ℕ → List State → ℕ) (total : Run → ℕ)
@@ -144,6 +152,17 @@ module _ (x : Instance) (formed : WellFormed x) where
       found-same (qualifies (withoutIdle x)) (qualifies x) (lastRound x) 1
       (λ q h. rw (runs-same q (omega arith), runs-same (lastRound x) (omega arith)) refl)
 
+  -- Every process has the same reason in every round.
+  reason-same : (p r : ℕ) → IsProcess x p → 1 ≤ r → r ≤ lastRound x → reasonOf (withoutIdle x) p r ≡ reasonOf x p r
+  unfolding reasonOf heardIn stateAtStart withoutIdle
+  reason-same p zero process first last = absurd (let z : ⊥ = omega arith in z)
+  reason-same p (suc r) process first last =
+      let place : suc r - 1 ≡ r = omega arith in
+      let as-many : length (runTo x r .states) ≡ x .processes = length-states x r ∙ formed .all-propose in
+      rw (place, runs-same r (omega arith))
+      (reason-alike (withoutIdle x) x refl (suc r) (runTo x r .states) (omega arith) (omega (arith, formed .fewer-crashes))
+      (λ k h g u. idle-alike r k last h g u) p (process .first) (omega (arith, process .last)))
+
 pub idle-lines-change-nothing : (x : Instance) → WellFormed x → IdleLinesChangeNothing x
 unfolding runOf withRound withoutIdle dataBy commitsBy
 idle-lines-change-nothing x formed =
@@ -155,4 +174,5 @@ idle-lines-change-nothing x formed =
       commitsSent = sent-same x formed commitsIn (λ run. run .commitsSent) (λ y r run. refl) (lastRound x) (omega arith);
       crashes = crashes-same x formed;
       settling = settling-same x formed;
+      reasons = reason-same x formed;
     }

@@ -8,6 +8,7 @@ pub mod Coordinator
 pub mod Values
 pub mod Locking
 pub mod Faults
+pub mod Reason
 pub mod Ends
 pub mod CrashCount
 pub mod SentSets
@@ -26,6 +27,8 @@ pub mod Bound
 pub mod MessagesBySender
 pub mod RunRounds
 pub mod FirstSettling
+pub mod TrueReasons
+pub mod ReasonsByEnds
 pub mod FaultsAlike
 pub mod IdleLines
 pub mod WorkedRuns

@@ -6,6 +6,7 @@ use Rattle.general.specs.Bits.{member, ones64, setOf}
 use Rattle.general.specs.Indexed.{mapFrom, countFrom}
 use Rattle.general.specs.Counts.{addAt}
 use Rattle.general.specs.Search.{lowestFrom}
+use Rattle.general.specs.Table.{tabulate}
 use Rattle.coordinator.specs.Message.{arriving, getsData, getsCommit}
 use Rattle.consensus.specs.Instance.{faultOf}
 use Rattle.coordinator.specs.Transition.{sends, receives}
@@ -20,13 +21,14 @@ use Rattle.coordinator.specs.CountsBySets.{dataSetAt, commitSetAt, sentS
 use Rattle.coordinator.specs.MessagesBySender.{sentAfter, dataBy, commitsBy}
 use Rattle.coordinator.specs.IdleLines.{faultLeft, withoutIdle}
 use Rattle.coordinator.specs.Settling.{valuesHeld, allAre, oneValue, qualifies, firstSettling}
+use Rattle.coordinator.specs.Reason.{stateAtStart, heardIn, reasonHearing, reasonFrom, reasonOf, reasonsIn, reasonsTo, reasonsOf}
 use Rattle.consensus.specs.FourProcesses.{four, firstCrashes, afterOneCommit, dataToTheLast, idleBesides, idleAlone}
 use Rattle.consensus.specs.ClaimCases.{case1Ends, case8Ends}
 use Rattle.coordinator.specs.WorkedTable.{workedRuns}
 use Rattle.coordinator.specs.WorkedRuns.{setsIn, qualifyingTo, qualifyingRounds, worked, AsWorked, WorkedRuns}
 
 pub worked-runs : WorkedRuns
-unfolding setsIn dataSetAt commitSetAt sentSet onesInCommon onesIn ones64 setOf four firstCrashes afterOneCommit dataToTheLast idleBesides idleAlone case1Ends case8Ends countFrom workedRuns AsWorked worked qualifyingTo qualifyingRounds member mapFrom addAt sentAfter dataBy commitsBy arriving getsData getsCommit faultOf sends receives amongFirst reachAt reachIn reach stateOf crashesIn sentBy received afterOutcome after statesAfter isUndecided anyUndecided speaks carries carriedIn dataIn commitsIn isIdle countsAsCrash crashCount initial withRound runTo runOf crashesOf valuesHeld allAre oneValue qualifies lowestFrom firstSettling latestOf endOf faultLeft withoutIdle
+unfolding setsIn dataSetAt commitSetAt sentSet onesInCommon onesIn ones64 setOf four firstCrashes afterOneCommit dataToTheLast idleBesides idleAlone case1Ends case8Ends countFrom workedRuns AsWorked worked qualifyingTo qualifyingRounds member mapFrom addAt sentAfter dataBy commitsBy arriving getsData getsCommit faultOf sends receives amongFirst reachAt reachIn reach stateOf crashesIn sentBy received afterOutcome after statesAfter isUndecided anyUndecided speaks carries carriedIn dataIn commitsIn isIdle countsAsCrash crashCount initial withRound runTo runOf crashesOf valuesHeld allAre oneValue qualifies lowestFrom firstSettling latestOf endOf faultLeft withoutIdle tabulate stateAtStart heardIn reasonHearing reasonFrom reasonOf reasonsIn reasonsTo reasonsOf
 worked-runs =
     record {
       number = refl;

@@ -7,9 +7,11 @@ use Rattle.general.specs.Indexed.{mapFrom}
 use Rattle.consensus.specs.Instance.{Instance, Fault, correct, crashes}
 use Rattle.consensus.specs.State.{State}
 use Rattle.consensus.specs.CrashCount.{isIdle}
+use Rattle.consensus.specs.Consensus.{IsProcess}
 use Rattle.coordinator.specs.Run.{runTo, runOf, lastRound, crashesOf, endOf}
 use Rattle.coordinator.specs.MessagesBySender.{dataBy, commitsBy}
 use Rattle.coordinator.specs.Settling.{firstSettling}
+use Rattle.coordinator.specs.Reason.{reasonOf}
 use Rattle.coordinator.specs.WellFormed.{WellFormed}
 
 -- What is left of a process's fault without its failure line if that is idle, given the process's end ("A failure line whose station decided in an earlier
@@ -43,3 +45,5 @@ pub record IdleLinesChangeNothing (x : Instance) : Type 0 where
   pub crashes : crashesOf (withoutIdle x) ≡ crashesOf x
   -- and the settling round (document 02, Paper 6)
   pub settling : firstSettling (withoutIdle x) ≡ firstSettling x
+  -- and every process's reason in every round (document 02, Paper 7)
+  pub reasons : (p r : ℕ) → IsProcess x p → 1 ≤ r → r ≤ lastRound x → reasonOf (withoutIdle x) p r ≡ reasonOf x p r

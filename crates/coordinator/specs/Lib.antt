@@ -7,6 +7,8 @@ pub mod Count
 pub mod Run
 pub mod Settling
 pub mod FirstSettling
+pub mod Reason
+pub mod TrueReasons
 pub mod WellFormed
 pub mod Pairing
 pub mod SpeakerBound

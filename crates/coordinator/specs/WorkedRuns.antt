@@ -10,6 +10,7 @@ use Rattle.coordinator.specs.Run.{runTo, lastRound, runOf, crashesOf, la
 use Rattle.coordinator.specs.CountsBySets.{dataSetAt, commitSetAt, sentSet, onesInCommon}
 use Rattle.coordinator.specs.MessagesBySender.{dataBy, commitsBy}
 use Rattle.coordinator.specs.Settling.{qualifies, firstSettling}
+use Rattle.coordinator.specs.Reason.{reasonsOf}
 use Rattle.coordinator.specs.SpeakerBound.{mostMessages, mostCommits}
 use Rattle.consensus.specs.FourProcesses.{afterOneCommit, idleBesides}
 use Rattle.coordinator.specs.IdleLines.{withoutIdle}
@@ -36,6 +37,7 @@ worked x =
       limits = latestOf x ∷ mostMessages x ∷ mostCommits x ∷ [];
       qualifying = qualifyingRounds x;
       settling = firstSettling x;
+      reasons = reasonsOf x;
     }
 
 -- Each run of a list is what the definitions give for its instance.

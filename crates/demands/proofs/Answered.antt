@@ -12,7 +12,7 @@ use Rattle.formats.specs.Reading.{Reading, accepted, refused}
 use Rattle.formats.specs.Ticket.{readTicket}
 use Rattle.formats.specs.ResultLine.{resultText, resultSize}
 use Rattle.formats.specs.Running.{resultIn, running, bufferAfter}
-use Rattle.formats.specs.Code.{refusalsFrom, runCode, RunCall}
+use Rattle.formats.specs.Code.{codeOf, refusalsFrom, RunCall}
 use Rattle.formats.proofs.WellFormed.{accepted-well-formed}
 use Rattle.formats.proofs.RefusalRange.{RefusedBy, lastRefused, ticket-refused}
 use Rattle.formats.proofs.ResultLength.{length-text}
@@ -39,7 +39,7 @@ run-case text room = by-reading (readTicket text) refl
     by-reading (refused number line) e = unread number line e
 
 -- A refusal has a number from 1 on, so that its code is none of a result.
-unread-numbered : (text : List ℕ) (number line : ℕ) → readTicket text ≡ refused number line → 1 ≤ number
+pub unread-numbered : (text : List ℕ) (number line : ℕ) → readTicket text ≡ refused number line → 1 ≤ number
 unfolding RefusedBy
 unread-numbered text number line e = let range : RefusedBy lastRefused (readTicket text) = ticket-refused text in (rw e at range) .0
 
@@ -49,7 +49,7 @@ result-small text x e = let formed = accepted-well-formed text x e in omega (ari
 
 module _ (text before after : List ℕ) (code : ℕ) (call : RunCall text before after code) where
   by-case : (a : Reading (List ℕ)) → running text (length before) ≡ a → RunCase text (length before) a → RunAnswered text before after code
-  unfolding runCode bufferAfter
+  unfolding codeOf bufferAfter
   by-case (accepted r) e (fits x read room) =
       let size = length-text x (accepted-well-formed text x read) in
       let coded : code ≡ resultSize (x .processes) = (rw e at (call .answered)) ∙ size in

@@ -2,7 +2,7 @@
 use mathlib.Core.List.{List, [], _∷_, _++_, append-nil}
 use mathlib.Core.Option.{some}
 use mathlib.Core.Path.{_≡_, refl, sym, ap, _∙_}
-use Prim.Native.Nat.{ℕ, _≤_, _<_}
+use Prim.Native.Nat.{ℕ, _<_}
 use native.Mathlib.Omega.{arith}
 use lib.ListN.{getD}
 use Rattle.general.specs.BigEndian.{bytesOf}
@@ -19,27 +19,28 @@ use Rattle.formats.specs.Running.{resultIn, running, written, programWrites}
 use Rattle.formats.proofs.LineReadBack.{line-read-back}
 use Rattle.formats.proofs.RefusalRange.{RefusedBy, lastRefused, ticket-refused}
 use Rattle.demands.specs.OutputSays.{lineAt, refusalFrom, refusalSaid}
-use Rattle.formats.specs.Reading.{Reading, refused}
-use Rattle.formats.specs.Settle.{settling}
-use Rattle.formats.specs.Code.{refusalsFrom, settleCode}
+use Rattle.formats.specs.Reading.{Reading, accepted, refused}
+use Rattle.coordinator.proofs.Counts.{counts-fit}
+use Rattle.coordinator.proofs.FirstSettling.{first-settling}
+use Rattle.formats.specs.Settle.{settlingIn, settling}
+use Rattle.formats.specs.Code.{codeOf, numberCode}
+use Rattle.formats.proofs.WellFormed.{accepted-well-formed}
 use Rattle.formats.proofs.Passing.{refused-accepted}
 use Rattle.formats.proofs.FirstWrong.{wrong-refused, refused-wrong}
-use Rattle.formats.proofs.CodesApart.{codes-apart}
 use Rattle.part_format.proofs.Refused.{refused-change-nothing, speak-answers-apart}
-use Rattle.general.proofs.Tests.{by-order}
 use Rattle.demands.specs.Demand1.{SettleAnswered, round, refusal, TicketsAnswered, Demand1}
-use Rattle.demands.proofs.Answered.{run-answered}
+use Rattle.demands.proofs.Answered.{unread-numbered, run-answered}
 
-settle-answered : (text : List ℕ) (code : ℕ) → code ≡ settleCode (settling text) → SettleAnswered text code
-settle-answered text code e =
-    by-order refusalsFrom code
-    (λ (large : refusalsFrom ≤ code).
-    let refused-so = codes-apart .settledRefused text code e large in
-    let placeless = codes-apart .settledPlaceless text code e in
-    refusal _ _ (refused-wrong text _ _ refused-so) (omega arith) large)
-    (λ (small : code < refusalsFrom).
-    let told = codes-apart .settledAccepted text code e small in
-    round (told .instance) (told .read) (told .round) small)
+settle-answered : (text : List ℕ) (code : ℕ) → code ≡ numberCode (settling text) → SettleAnswered text code
+unfolding settling settlingIn codeOf
+settle-answered text code e = by-reading (readTicket text) refl e
+  where
+    by-reading : (reading : Reading Instance) → readTicket text ≡ reading → code ≡ numberCode (settlingIn reading) → SettleAnswered text code
+    by-reading (accepted x) read coded =
+        let formed = accepted-well-formed text x read in
+        round x read coded (omega (arith, coded, first-settling x formed .within .1, counts-fit x formed .rounds))
+    by-reading (refused number line) read coded =
+        refusal number line (refused-wrong text number line read) coded (omega (arith, coded, unread-numbered text number line read))
 
 same-refusal : (number line number′ line′ : ℕ) → _≡_ {A = Reading Instance} (refused number line) (refused number′ line′) → (number ≡ number′) × (line ≡ line′)
 same-refusal number line number′ line′ e =

@@ -12,19 +12,23 @@ use Rattle.formats.specs.Ticket.{readTicket}
 use Rattle.formats.specs.ResultLine.{resultText, resultSize}
 use Rattle.formats.specs.Running.{running, bufferAfter, written, programWrites}
 use Rattle.formats.specs.Settle.{settling}
-use Rattle.formats.specs.Code.{runCode, settleCode}
+use Rattle.formats.specs.Reason.{reason, reasons}
+use Rattle.formats.specs.Code.{sizeCode, numberCode, WritingCall}
 use Rattle.formats.proofs.Capitals.{read-capitals, read-alike}
 use Rattle.formats.proofs.InCapitals.{refusal-in-capitals}
 use Rattle.formats.proofs.WellFormed.{accepted-well-formed}
 use Rattle.formats.proofs.ResultLength.{length-text}
 use Rattle.formats.proofs.RefusalRange.{RefusedBy, lastRefused, ticket-refused}
-use Rattle.running.specs.Answer.{answerOf}
+use Rattle.running.specs.Answer.{answerOf, Writing}
+use Rattle.running.specs.declared.RunAnswer.{RunAnswer}
+use Rattle.reasons.specs.Answer.{reasonOfAnswer}
+use Rattle.reasons.specs.declared.ReasonAnswer.{ReasonAnswer}
 use Rattle.running.specs.Settling.{settlingOf}
 use Rattle.running.specs.declared.SettleAnswer.{SettleAnswer}
 use Rattle.running.specs.declared.SettleAnswer.the-variants.{Round, Refused}
 use Rattle.demands.specs.Written.{Wrote}
 use Rattle.demands.specs.Witnesses.{RunMet}
-use Rattle.demands.specs.LettersClaim.{RunAlike, SettledAlike, LettersClaim}
+use Rattle.demands.specs.LettersClaim.{RunAlike, SettledAlike, ExplainedAlike, LettersClaim}
 use Rattle.demands.proofs.Answered.{RunCase, fits, short, unread, run-case}
 use Rattle.demands.proofs.ResultInCapitals.{text-in-capitals}
 
@@ -40,6 +44,35 @@ same-answer (Refused number line) (Refused number′ line′) e =
     let same : number ≡ number′ = cc in
     let place : line ≡ line′ = cc in
     rw (same, place) refl
+
+-- So are those for a reason.
+pub same-reason : (answer answer′ : ReasonAnswer) → reasonOfAnswer answer ≡ reasonOfAnswer answer′ → answer ≡ answer′
+unfolding reasonOfAnswer
+same-reason (ReasonAnswer.Reason j) (ReasonAnswer.Reason k) e =
+    let same : j ≡ k = cc in
+    rw same refl
+same-reason (ReasonAnswer.Reason j) (ReasonAnswer.Refused number line) e = cc
+same-reason (ReasonAnswer.Refused number line) (ReasonAnswer.Reason k) e = cc
+same-reason (ReasonAnswer.Refused number line) (ReasonAnswer.Refused number′ line′) e =
+    let same : number ≡ number′ = cc in
+    let place : line ≡ line′ = cc in
+    rw (same, place) refl
+
+-- What is made of two things that are the same.
+made-alike : {A B : Type 0} (made : B → A) (s t : B) → s ≡ t → (u v : A) → u ≡ made s → v ≡ made t → u ≡ v
+made-alike made s t same u v e g = e ∙ ap made same ∙ sym g
+
+-- Two calls that write, of which both answer the same for every room.
+module _ (answers answers′ : (room : ℕ) → Reading (List ℕ)) (same : (room : ℕ) → answers room ≡ answers′ room) (before out out′ : List ℕ) where
+  written-alike : (answer answer′ : RunAnswer) → Writing answers before out answer → Writing answers′ before out′ answer′ → (answer ≡ answer′) × (out ≡ out′)
+  written-alike answer answer′ r s =
+      let alike = same (length before) in
+      (made-alike answerOf _ _ alike _ _ (r .answered) (s .answered), made-alike (λ m. bufferAfter m before) _ _ alike _ _ (r .buffer) (s .buffer))
+
+  called-alike : (code code′ : ℕ) → WritingCall answers before out code → WritingCall answers′ before out′ code′ → (code ≡ code′) × (out ≡ out′)
+  called-alike code code′ r s =
+      let alike = same (length before) in
+      (made-alike sizeCode _ _ alike _ _ (r .answered) (s .answered), made-alike (λ m. bufferAfter m before) _ _ alike _ _ (r .buffer) (s .buffer))
 
 -- The number of a ticket's refusal is a byte.
 refusal-byte : (text : List ℕ) (number line : ℕ) → readTicket text ≡ refused number line → number < 256
@@ -57,18 +90,12 @@ module _ (a b : List ℕ) (same : EqualUpToCase a b) where
   unfolding running
   running-alike room = rw alike refl
 
-  -- Whatever is made of what running answers.
-  made-alike : {A : Type 0} (made : Reading (List ℕ) → A) (room : ℕ) (u v : A) → u ≡ made (running a room) → v ≡ made (running b room) → u ≡ v
-  made-alike made room u v e g = e ∙ ap made (running-alike room) ∙ sym g
-
   run-alike : RunAlike a b
   unfolding programWrites
   run-alike =
       record {
-        ran = λ before out out′ answer answer′ r s.
-            (made-alike answerOf _ _ _ (r .answered) (s .answered), made-alike (λ m. bufferAfter m before) _ _ _ (r .buffer) (s .buffer));
-        called = λ before out out′ code code′ r s.
-            (made-alike runCode _ _ _ (r .answered) (s .answered), made-alike (λ m. bufferAfter m before) _ _ _ (r .buffer) (s .buffer));
+        ran = written-alike (running a) (running b) running-alike;
+        called = called-alike (running a) (running b) running-alike;
         program = ap written (running-alike (resultSize 64));
       }
 
@@ -94,7 +121,24 @@ module _ (a b : List ℕ) (same : EqualUpToCase a b) where
   settled-alike =
       record {
         settled = λ answer answer′ e g. same-answer answer answer′ (e ∙ settling-alike ∙ sym g);
-        called = λ code code′ e g. e ∙ ap settleCode settling-alike ∙ sym g;
+        called = λ code code′ e g. e ∙ ap numberCode settling-alike ∙ sym g;
+      }
+
+  reason-alike : (p r : ℕ) → reason a p r ≡ reason b p r
+  unfolding reason
+  reason-alike p r = rw alike refl
+
+  reasons-alike : (room : ℕ) → reasons a room ≡ reasons b room
+  unfolding reasons
+  reasons-alike room = rw alike refl
+
+  explained-alike : ExplainedAlike a b
+  explained-alike =
+      record {
+        given = λ p r answer answer′ e g. same-reason answer answer′ (e ∙ reason-alike p r ∙ sym g);
+        called = λ p r code code′ e g. e ∙ ap numberCode (reason-alike p r) ∙ sym g;
+        allGiven = written-alike (reasons a) (reasons b) reasons-alike;
+        allCalled = called-alike (reasons a) (reasons b) reasons-alike;
       }
 
 result-in-capitals : (text : List ℕ) (x : Instance) (out : List ℕ) → Wrote text x out → InCapitals (take (resultSize (x .processes)) out)
@@ -120,6 +164,7 @@ letters-claim =
       read = read-alike;
       run = run-alike;
       settle = settled-alike;
+      explain = explained-alike;
       result = result-in-capitals;
       written = written-in-capitals;
     }

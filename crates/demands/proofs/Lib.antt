@@ -14,6 +14,7 @@ pub mod SenderClaim
 pub mod RoomClaim
 pub mod IdleClaim
 pub mod SettlingClaim
+pub mod ReasonClaim
 pub mod ResultInCapitals
 pub mod LettersClaim
 pub mod Witnesses

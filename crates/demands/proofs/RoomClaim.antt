@@ -9,7 +9,7 @@ use Rattle.formats.specs.Reading.{accepted, refused}
 use Rattle.formats.specs.Ticket.{readTicket}
 use Rattle.formats.specs.ResultLine.{resultText, resultSize}
 use Rattle.formats.specs.Running.{resultIn, running, bufferAfter}
-use Rattle.formats.specs.Code.{refusalCode, runCode, RunCall}
+use Rattle.formats.specs.Code.{codeOf, refusalCode, RunCall}
 use Rattle.formats.proofs.AnswerCases.{result-sizes}
 use Rattle.formats.proofs.ResultLength.{length-text}
 use Rattle.formats.proofs.WellFormed.{accepted-well-formed}
@@ -40,7 +40,7 @@ short text before after answer x read ran h =
 
 short-called : (text before after : List ℕ) (code : ℕ) (x : Instance) → readTicket text ≡ accepted x → RunCall text before after code
     → length before < needed (x .processes) → (code ≡ refusalCode 9 0) × (after ≡ before)
-unfolding runCode bufferAfter
+unfolding codeOf bufferAfter
 short-called text before after code x read call h =
     let few = too-short text before x read h in
     (rw few at (call .answered), rw few at (call .buffer))
@@ -55,7 +55,7 @@ enough text before after answer x read ran h =
 
 enough-called : (text before after : List ℕ) (code : ℕ) (x : Instance) → readTicket text ≡ accepted x → RunCall text before after code
     → needed (x .processes) ≤ length before → (code ≡ needed (x .processes)) × Holds x before after
-unfolding runCode bufferAfter
+unfolding codeOf bufferAfter
 enough-called text before after code x read call h =
     let whole = fits text before x read h in
     let long = size text before x read in

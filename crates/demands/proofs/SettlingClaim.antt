@@ -12,7 +12,7 @@ use Rattle.coordinator.proofs.FirstSettling.{first-settling, settled-since}
 use Rattle.formats.specs.Reading.{accepted}
 use Rattle.formats.specs.Ticket.{readTicket}
 use Rattle.formats.specs.Settle.{settlingIn, settling}
-use Rattle.formats.specs.Code.{settleCode}
+use Rattle.formats.specs.Code.{codeOf, numberCode}
 use Rattle.formats.proofs.WellFormed.{accepted-well-formed}
 use Rattle.running.specs.Settling.{settlingOf}
 use Rattle.running.specs.declared.SettleAnswer.{SettleAnswer}
@@ -32,9 +32,9 @@ module _ (text : List ℕ) (x : Instance) (read : readTicket text ≡ accepted x
   unfolding settlingOf
   named answer e = (firstSettling x, same-answer answer (Round (firstSettling x)) (e ∙ settling-accepted), first .0, first .1)
 
-  called : (code : ℕ) → code ≡ settleCode (settling text) → FirstSettles x code × SettledSince x code
-  unfolding settleCode
-  called code e = rw (e ∙ ap settleCode settling-accepted) first
+  called : (code : ℕ) → code ≡ numberCode (settling text) → FirstSettles x code × SettledSince x code
+  unfolding codeOf
+  called code e = rw (e ∙ ap numberCode settling-accepted) first
 
 -- Of two of them neither is below the other.
 not-below : (x : Instance) (r s : ℕ) → FirstSettles x r → FirstSettles x s → r < s → ⊥

@@ -2,7 +2,8 @@
 use mathlib.Core.List.{List, [], _∷_, map}
 use mathlib.Core.Option.{none}
 use mathlib.Core.Path.{_≡_, refl}
-use Prim.Native.Nat.{ℕ, zero, suc, _-_}
+use mathlib.Core.Bool.{true}
+use Prim.Native.Nat.{ℕ, zero, suc, _-_, _<_}
 use native.Mathlib.Omega.{arith}
 use lib.ListN.{replicate, getD}
 use Rattle.general.specs.Bits.{member}
@@ -10,9 +11,10 @@ use Rattle.general.specs.BigEndian.{number, numberFrom, bytesOf}
 use Rattle.general.specs.Indexed.{mapFrom, countFrom}
 use Rattle.general.specs.Counts.{countOf, addAt}
 use Rattle.general.specs.Search.{lowestFrom}
+use Rattle.general.specs.Table.{tabulate}
 use Rattle.general.specs.Text.{ascii}
 use Rattle.consensus.specs.Instance.{Instance, Fault, correct, crashes, beforeSending, duringCommits, pointFrom, faultOf, withinLimits}
-use Rattle.consensus.specs.Consensus.{Decides}
+use Rattle.consensus.specs.Consensus.{IsProcess, Decides}
 use Rattle.consensus.specs.FourProcesses.{four}
 use Rattle.coordinator.specs.Pairing.{LinePaired, same, moreCommits, missing, Paired}
 use Rattle.coordinator.specs.Message.{arriving, getsData, getsCommit}
@@ -25,6 +27,9 @@ use Rattle.coordinator.specs.Count.{speaks, carries, carriedIn, dataIn, commits
 use Rattle.consensus.specs.CrashCount.{isIdle, countsAsCrash, crashCount}
 use Rattle.coordinator.specs.Run.{initial, withRound, runTo, runOf, crashesOf, endOf}
 use Rattle.coordinator.specs.Settling.{valuesHeld, allAre, oneValue, qualifies, firstSettling}
+use Rattle.coordinator.specs.Reason.{stateAtStart, stateAtEnd, heardIn, reasonHearing, reasonFrom, reasonOf, reasonsIn, reasonsTo, reasonsOf}
+use Rattle.coordinator.specs.TrueReasons.{IsRound, StaysUp, endRound}
+use Rattle.coordinator.proofs.History.{undecided-crashed}
 use Rattle.coordinator.specs.MessagesBySender.{sentAfter, dataBy, commitsBy}
 use Rattle.formats.specs.Digit.{digitValue, isDigit}
 use Rattle.formats.specs.Line.{scan, closed, unclosed, linesFrom, linesOf}
@@ -37,15 +42,17 @@ use Rattle.formats.specs.HexText.{digitOf, hexDigits, hexLine}
 use Rattle.formats.specs.ResultLine.{endBytes, processLine, lastLine, joined, lineBy, processLines, resultLines, resultText, resultSize}
 use Rattle.formats.specs.Running.{resultIn, running, bufferAfter}
 use Rattle.formats.specs.Settle.{settlingIn, settling}
-use Rattle.formats.specs.Code.{refusalCode, runCode, RunCall, settleCode}
+use Rattle.formats.specs.Reason.{withinRun, reasonIn, reason, reasonsSize, reasonsWithin, reasons}
+use Rattle.formats.specs.Code.{codeOf, refusalCode, RunCall}
 use Rattle.formats.specs.Table.{textOf, opening, case1}
 use Rattle.formats.proofs.LetteringCases.{lettering-cases}
 use Rattle.running.specs.Answer.{answerOf}
 use Rattle.running.specs.Settling.{settlingOf}
+use Rattle.reasons.specs.Answer.{reasonOfAnswer}
 use Rattle.demands.specs.OutputSays.{isProcessLine, sentIn, sentFrom, lineAt, sentSaid, countsOf}
 use Rattle.demands.specs.Written.{Wrote}
 use Rattle.demands.specs.PairedTexts.{CommitLine, PairedTexts, noLines, sameLine, countNoLower, missingLine}
-use Rattle.demands.specs.Witnesses.{crashText, mixedText, moreCommitsText, noCrashText, laterText, PairMet, RunMet, SentMet, SettledMet, sentAs, Witnesses}
+use Rattle.demands.specs.Witnesses.{crashText, mixedText, moreCommitsText, noCrashText, laterText, silentText, PairMet, RunMet, SentMet, SettledMet, ReasonMet, CrashMet, ReasonsMet, sentAs, Witnesses}
 use Rattle.demands.proofs.Demand2.{demand-2}
 use Rattle.demands.proofs.LettersClaim.{run-met-alike}
 
@@ -123,7 +130,7 @@ line-missing =
 
 -- The buffer of 120 bytes holds the result and, behind it, what stood there.
 written : RunMet crashText 101
-unfolding answerOf runCode running resultIn bufferAfter resultText resultLines joined lineBy processLines lastLine processLine endBytes resultSize hexLine hexDigits digitOf crashText moreCommitsText noCrashText opening textOf ascii member number numberFrom bytesOf mapFrom countFrom countOf addAt pointFrom faultOf withinLimits arriving getsData getsCommit sends receives amongFirst reachAt reachIn reach stateOf crashesIn sentBy received afterOutcome after statesAfter isUndecided anyUndecided speaks carries carriedIn dataIn commitsIn isIdle countsAsCrash crashCount initial withRound runTo runOf sentAfter dataBy commitsBy crashesOf digitValue isDigit scan closed unclosed linesFrom linesOf proceed readFrom isKind headerSays afterProposal proposalSays failureLine placesCrash allBetween suitsStep crashSays failureSays lineSays unproposed withProposal withCrash begin store accept atEnd readTicket
+unfolding answerOf codeOf running resultIn bufferAfter resultText resultLines joined lineBy processLines lastLine processLine endBytes resultSize hexLine hexDigits digitOf crashText moreCommitsText noCrashText opening textOf ascii member number numberFrom bytesOf mapFrom countFrom countOf addAt pointFrom faultOf withinLimits arriving getsData getsCommit sends receives amongFirst reachAt reachIn reach stateOf crashesIn sentBy received afterOutcome after statesAfter isUndecided anyUndecided speaks carries carriedIn dataIn commitsIn isIdle countsAsCrash crashCount initial withRound runTo runOf sentAfter dataBy commitsBy crashesOf digitValue isDigit scan closed unclosed linesFrom linesOf proceed readFrom isKind headerSays afterProposal proposalSays failureLine placesCrash allBetween suitsStep crashSays failureSays lineSays unproposed withProposal withCrash begin store accept atEnd readTicket
 written =
     record {
       before = replicate 120 165;
@@ -139,17 +146,17 @@ written-mixed = run-met-alike crashText mixedText (lettering-cases .acceptedText
 
 -- Its lines are those of case 1.
 crash-wrote : Wrote crashText crash (textOf (case1 .output))
-unfolding answerOf runCode running resultIn bufferAfter resultText resultLines joined lineBy processLines lastLine processLine endBytes resultSize hexLine hexDigits digitOf crashText moreCommitsText noCrashText opening textOf ascii member number numberFrom bytesOf mapFrom countFrom countOf addAt pointFrom faultOf withinLimits arriving getsData getsCommit sends receives amongFirst reachAt reachIn reach stateOf crashesIn sentBy received afterOutcome after statesAfter isUndecided anyUndecided speaks carries carriedIn dataIn commitsIn isIdle countsAsCrash crashCount initial withRound runTo runOf sentAfter dataBy commitsBy crashesOf digitValue isDigit scan closed unclosed linesFrom linesOf proceed readFrom isKind headerSays afterProposal proposalSays failureLine placesCrash allBetween suitsStep crashSays failureSays lineSays unproposed withProposal withCrash begin store accept atEnd readTicket four
+unfolding answerOf codeOf running resultIn bufferAfter resultText resultLines joined lineBy processLines lastLine processLine endBytes resultSize hexLine hexDigits digitOf crashText moreCommitsText noCrashText opening textOf ascii member number numberFrom bytesOf mapFrom countFrom countOf addAt pointFrom faultOf withinLimits arriving getsData getsCommit sends receives amongFirst reachAt reachIn reach stateOf crashesIn sentBy received afterOutcome after statesAfter isUndecided anyUndecided speaks carries carriedIn dataIn commitsIn isIdle countsAsCrash crashCount initial withRound runTo runOf sentAfter dataBy commitsBy crashesOf digitValue isDigit scan closed unclosed linesFrom linesOf proceed readFrom isKind headerSays afterProposal proposalSays failureLine placesCrash allBetween suitsStep crashSays failureSays lineSays unproposed withProposal withCrash begin store accept atEnd readTicket four
 crash-wrote = record { read = texts-read .0; behind = []; front = refl }
 
 -- What its lines say of processes 1 to 5.
 sent-rows : map (sentSaid (textOf (case1 .output))) (1 ∷ 2 ∷ 3 ∷ 4 ∷ 5 ∷ []) ≡ sentAs 3 1 ∷ sentAs 1 1 ∷ sentAs 0 0 ∷ sentAs 0 0 ∷ none ∷ []
-unfolding answerOf runCode running resultIn bufferAfter resultText resultLines joined lineBy processLines lastLine processLine endBytes resultSize hexLine hexDigits digitOf crashText moreCommitsText noCrashText opening textOf ascii member number numberFrom bytesOf mapFrom countFrom countOf addAt pointFrom faultOf withinLimits arriving getsData getsCommit sends receives amongFirst reachAt reachIn reach stateOf crashesIn sentBy received afterOutcome after statesAfter isUndecided anyUndecided speaks carries carriedIn dataIn commitsIn isIdle countsAsCrash crashCount initial withRound runTo runOf sentAfter dataBy commitsBy crashesOf digitValue isDigit scan closed unclosed linesFrom linesOf proceed readFrom isKind headerSays afterProposal proposalSays failureLine placesCrash allBetween suitsStep crashSays failureSays lineSays unproposed withProposal withCrash begin store accept atEnd readTicket four lineAt isProcessLine sentIn sentFrom sentSaid
+unfolding answerOf codeOf running resultIn bufferAfter resultText resultLines joined lineBy processLines lastLine processLine endBytes resultSize hexLine hexDigits digitOf crashText moreCommitsText noCrashText opening textOf ascii member number numberFrom bytesOf mapFrom countFrom countOf addAt pointFrom faultOf withinLimits arriving getsData getsCommit sends receives amongFirst reachAt reachIn reach stateOf crashesIn sentBy received afterOutcome after statesAfter isUndecided anyUndecided speaks carries carriedIn dataIn commitsIn isIdle countsAsCrash crashCount initial withRound runTo runOf sentAfter dataBy commitsBy crashesOf digitValue isDigit scan closed unclosed linesFrom linesOf proceed readFrom isKind headerSays afterProposal proposalSays failureLine placesCrash allBetween suitsStep crashSays failureSays lineSays unproposed withProposal withCrash begin store accept atEnd readTicket four lineAt isProcessLine sentIn sentFrom sentSaid
 sent-rows = refl
 
 sent : SentMet crashText (textOf (case1 .output)) (sentAs 3 1 ∷ sentAs 1 1 ∷ sentAs 0 0 ∷ sentAs 0 0 ∷ none ∷ [])
     (record { rounds = 2; crashes = 1; speakers = 2; dataSent = 4; commitsSent = 2 })
-unfolding answerOf runCode running resultIn bufferAfter resultText resultLines joined lineBy processLines lastLine processLine endBytes resultSize hexLine hexDigits digitOf crashText moreCommitsText noCrashText opening textOf ascii member number numberFrom bytesOf mapFrom countFrom countOf addAt pointFrom faultOf withinLimits arriving getsData getsCommit sends receives amongFirst reachAt reachIn reach stateOf crashesIn sentBy received afterOutcome after statesAfter isUndecided anyUndecided speaks carries carriedIn dataIn commitsIn isIdle countsAsCrash crashCount initial withRound runTo runOf sentAfter dataBy commitsBy crashesOf digitValue isDigit scan closed unclosed linesFrom linesOf proceed readFrom isKind headerSays afterProposal proposalSays failureLine placesCrash allBetween suitsStep crashSays failureSays lineSays unproposed withProposal withCrash begin store accept atEnd readTicket four lineAt isProcessLine sentIn sentFrom sentSaid countsOf
+unfolding answerOf codeOf running resultIn bufferAfter resultText resultLines joined lineBy processLines lastLine processLine endBytes resultSize hexLine hexDigits digitOf crashText moreCommitsText noCrashText opening textOf ascii member number numberFrom bytesOf mapFrom countFrom countOf addAt pointFrom faultOf withinLimits arriving getsData getsCommit sends receives amongFirst reachAt reachIn reach stateOf crashesIn sentBy received afterOutcome after statesAfter isUndecided anyUndecided speaks carries carriedIn dataIn commitsIn isIdle countsAsCrash crashCount initial withRound runTo runOf sentAfter dataBy commitsBy crashesOf digitValue isDigit scan closed unclosed linesFrom linesOf proceed readFrom isKind headerSays afterProposal proposalSays failureLine placesCrash allBetween suitsStep crashSays failureSays lineSays unproposed withProposal withCrash begin store accept atEnd readTicket four lineAt isProcessLine sentIn sentFrom sentSaid countsOf
 sent =
     record {
       instance = crash;
@@ -166,7 +173,7 @@ crash-settles = (refl, refl)
 -- What is settled is so by both contracts.
 met : (text : List ℕ) (x : Instance) (code rounds p v : ℕ) → readTicket text ≡ accepted x → firstSettling x ≡ code → runOf x .rounds ≡ rounds
     → Decides x (endOf x) p rounds v → SettledMet text code rounds p v
-unfolding settling settlingIn settlingOf settleCode
+unfolding settling settlingIn settlingOf codeOf
 met text x code rounds p v read settles last decides =
     record { instance = x; read = read; answered = rw (read, settles) refl; called = rw (read, settles) refl; last = last; decides = decides }
 
@@ -188,13 +195,69 @@ later-settles = (refl, refl, record { process = omega arith; state = refl })
 settled-later : SettledMet laterText 2 3 3 30
 settled-later = met laterText later 2 3 3 30 later-read (later-settles .0) (later-settles .1) (later-settles .2)
 
+-- Case 6: processes 1 and 2 crash in round 1.
+abbrev silent : Instance
+silent = four (crashes 1 beforeSending ∷ crashes 1 beforeSending ∷ correct ∷ correct ∷ [])
+
+silent-read : readTicket silentText ≡ accepted silent
+unfolding four silentText opening textOf ascii number numberFrom pointFrom withinLimits digitValue isDigit scan closed unclosed linesFrom linesOf proceed readFrom isKind headerSays afterProposal proposalSays failureLine placesCrash allBetween suitsStep crashSays failureSays lineSays unproposed withProposal withCrash begin store accept atEnd readTicket
+silent-read = refl
+
+-- A reason that is given is so by both contracts.
+reason-met : (text : List ℕ) (x : Instance) (p r k ended : ℕ) → readTicket text ≡ accepted x → IsProcess x p → IsRound x r → StaysUp x p r
+    → withinRun x p r ≡ true → reasonOf x p r ≡ k → r < endRound (endOf x p) → endRound (endOf x r) ≡ ended → ReasonMet text p r k ended
+unfolding reason reasonIn reasonOfAnswer codeOf
+reason-met text x p r k ended read process round stays within known later coordinator =
+    record {
+      instance = x;
+      read = read;
+      process = process;
+      round = round;
+      stays = stays;
+      answered = rw (read, within, known) refl;
+      called = rw (read, within, known) refl;
+      later = later;
+      coordinator = coordinator;
+    }
+
+explained : ReasonMet crashText 3 1 3 1
+unfolding stateAtStart stateAtEnd heardIn reasonHearing reasonFrom reasonOf endRound withinRun four endOf member mapFrom faultOf arriving getsData getsCommit sends receives amongFirst reachAt reachIn reach stateOf crashesIn sentBy received afterOutcome after statesAfter isUndecided anyUndecided speaks carries carriedIn dataIn commitsIn initial withRound runTo runOf
+explained =
+    reason-met crashText crash 3 1 3 1 (texts-read .0) (omega arith) (omega arith)
+    (record { held = 30; began = refl; up = λ q e. undecided-crashed _ 10 q refl e }) refl refl (omega arith) refl
+
+explained-silent : ReasonMet silentText 3 2 4 1
+unfolding stateAtStart stateAtEnd heardIn reasonHearing reasonFrom reasonOf endRound withinRun four endOf member mapFrom faultOf arriving getsData getsCommit sends receives amongFirst reachAt reachIn reach stateOf crashesIn sentBy received afterOutcome after statesAfter isUndecided anyUndecided speaks carries carriedIn dataIn commitsIn initial withRound runTo runOf
+explained-silent =
+    reason-met silentText silent 3 2 4 1 silent-read (omega arith) (omega arith)
+    (record { held = 30; began = refl; up = λ q e. undecided-crashed _ 30 q refl e }) refl refl (omega arith) refl
+
+crash-met : CrashMet crashText 1 1 2
+unfolding endRound four endOf member mapFrom faultOf arriving getsData getsCommit sends receives amongFirst reachAt reachIn reach stateOf crashesIn sentBy received afterOutcome after statesAfter isUndecided anyUndecided speaks carries carriedIn dataIn commitsIn initial withRound runTo runOf
+crash-met =
+    record { instance = crash; read = texts-read .0; process = omega arith; ended = refl; round = omega arith; later = omega arith }
+
+-- The reasons of case 1.
+crash-reasons : reasons crashText 9 ≡ accepted (6 ∷ 3 ∷ 3 ∷ 2 ∷ 7 ∷ 1 ∷ 2 ∷ 7 ∷ [])
+unfolding reasons reasonsWithin reasonsSize tabulate stateAtStart heardIn reasonHearing reasonFrom reasonOf reasonsIn reasonsTo reasonsOf four endOf member mapFrom faultOf arriving getsData getsCommit sends receives amongFirst reachAt reachIn reach stateOf crashesIn sentBy received afterOutcome after statesAfter isUndecided anyUndecided speaks carries carriedIn dataIn commitsIn initial withRound runTo runOf
+crash-reasons = rw (texts-read .0) refl
+
+all-explained : ReasonsMet crashText (replicate 9 165) (6 ∷ 3 ∷ 3 ∷ 2 ∷ 7 ∷ 1 ∷ 2 ∷ 7 ∷ 165 ∷ []) 8
+unfolding answerOf codeOf bufferAfter
+all-explained =
+    record {
+      answered = record { answered = rw crash-reasons refl; buffer = rw crash-reasons refl };
+      called = record { answered = rw crash-reasons refl; buffer = rw crash-reasons refl };
+      small = omega arith;
+    }
+
 -- 100 bytes are one too few, and 101 just enough.
 short : RunCall crashText (replicate 100 165) (replicate 100 165) (refusalCode 9 0)
-unfolding answerOf runCode running resultIn bufferAfter resultText resultLines joined lineBy processLines lastLine processLine endBytes resultSize hexLine hexDigits digitOf crashText moreCommitsText noCrashText opening textOf ascii member number numberFrom bytesOf mapFrom countFrom countOf addAt pointFrom faultOf withinLimits arriving getsData getsCommit sends receives amongFirst reachAt reachIn reach stateOf crashesIn sentBy received afterOutcome after statesAfter isUndecided anyUndecided speaks carries carriedIn dataIn commitsIn isIdle countsAsCrash crashCount initial withRound runTo runOf sentAfter dataBy commitsBy crashesOf digitValue isDigit scan closed unclosed linesFrom linesOf proceed readFrom isKind headerSays afterProposal proposalSays failureLine placesCrash allBetween suitsStep crashSays failureSays lineSays unproposed withProposal withCrash begin store accept atEnd readTicket
+unfolding answerOf codeOf running resultIn bufferAfter resultText resultLines joined lineBy processLines lastLine processLine endBytes resultSize hexLine hexDigits digitOf crashText moreCommitsText noCrashText opening textOf ascii member number numberFrom bytesOf mapFrom countFrom countOf addAt pointFrom faultOf withinLimits arriving getsData getsCommit sends receives amongFirst reachAt reachIn reach stateOf crashesIn sentBy received afterOutcome after statesAfter isUndecided anyUndecided speaks carries carriedIn dataIn commitsIn isIdle countsAsCrash crashCount initial withRound runTo runOf sentAfter dataBy commitsBy crashesOf digitValue isDigit scan closed unclosed linesFrom linesOf proceed readFrom isKind headerSays afterProposal proposalSays failureLine placesCrash allBetween suitsStep crashSays failureSays lineSays unproposed withProposal withCrash begin store accept atEnd readTicket
 short = record { answered = refl; buffer = refl }
 
 fits : RunCall crashText (replicate 101 165) (textOf (case1 .output)) 101
-unfolding answerOf runCode running resultIn bufferAfter resultText resultLines joined lineBy processLines lastLine processLine endBytes resultSize hexLine hexDigits digitOf crashText moreCommitsText noCrashText opening textOf ascii member number numberFrom bytesOf mapFrom countFrom countOf addAt pointFrom faultOf withinLimits arriving getsData getsCommit sends receives amongFirst reachAt reachIn reach stateOf crashesIn sentBy received afterOutcome after statesAfter isUndecided anyUndecided speaks carries carriedIn dataIn commitsIn isIdle countsAsCrash crashCount initial withRound runTo runOf sentAfter dataBy commitsBy crashesOf digitValue isDigit scan closed unclosed linesFrom linesOf proceed readFrom isKind headerSays afterProposal proposalSays failureLine placesCrash allBetween suitsStep crashSays failureSays lineSays unproposed withProposal withCrash begin store accept atEnd readTicket
+unfolding answerOf codeOf running resultIn bufferAfter resultText resultLines joined lineBy processLines lastLine processLine endBytes resultSize hexLine hexDigits digitOf crashText moreCommitsText noCrashText opening textOf ascii member number numberFrom bytesOf mapFrom countFrom countOf addAt pointFrom faultOf withinLimits arriving getsData getsCommit sends receives amongFirst reachAt reachIn reach stateOf crashesIn sentBy received afterOutcome after statesAfter isUndecided anyUndecided speaks carries carriedIn dataIn commitsIn isIdle countsAsCrash crashCount initial withRound runTo runOf sentAfter dataBy commitsBy crashesOf digitValue isDigit scan closed unclosed linesFrom linesOf proceed readFrom isKind headerSays afterProposal proposalSays failureLine placesCrash allBetween suitsStep crashSays failureSays lineSays unproposed withProposal withCrash begin store accept atEnd readTicket
 fits = record { answered = refl; buffer = refl }
 
 pub witnesses : Witnesses
@@ -207,6 +270,10 @@ witnesses =
       sent = sent;
       settled = settled;
       settledLater = settled-later;
+      explained = explained;
+      explainedSilent = explained-silent;
+      crashes = crash-met;
+      allExplained = all-explained;
       short = short;
       fits = fits;
     }

@@ -15,7 +15,7 @@ use Rattle.formats.specs.Running.{programWrites}
 use Rattle.formats.specs.Settle.{settling}
 use Rattle.demands.specs.OutputSays.{refusalSaid}
 use Rattle.part_format.specs.Refused.{RefusedCallsChangeNothing, SpeakAnswersApart}
-use Rattle.formats.specs.Code.{refusalsFrom, refusalCode, RunCall, settleCode}
+use Rattle.formats.specs.Code.{refusalsFrom, refusalCode, RunCall, numberCode}
 
 -- Running a text into a buffer of `room` bytes is refused with this number and line: for its first wrong line, or, with 9 and no line, for want of room.
 pub data RunRefused (text : List ℕ) (room : ℕ) : (refusal line : ℕ) → Type 0 where
@@ -39,7 +39,7 @@ pub data SettleAnswered (text : List ℕ) (code : ℕ) : Type 0 where
 -- Of tickets: every text and every buffer gets its answer; a text is accepted or has a first wrong line, and only one.
 pub record TicketsAnswered : Type 0 where
   pub run : (text before after : List ℕ) (code : ℕ) → RunCall text before after code → RunAnswered text before after code
-  pub settle : (text : List ℕ) (code : ℕ) → code ≡ settleCode (settling text) → SettleAnswered text code
+  pub settle : (text : List ℕ) (code : ℕ) → code ≡ numberCode (settling text) → SettleAnswered text code
   -- the program writes the refusal's line, which says its number and its line
   pub program : (text : List ℕ) (number line : ℕ) → FirstWrong text number line
       → (programWrites text ≡ refusalLine number line) × (refusalSaid (programWrites text) ≡ some (record { refusal = number; line = line }))

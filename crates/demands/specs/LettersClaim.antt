@@ -11,11 +11,14 @@ use Rattle.formats.specs.Ticket.{readTicket}
 use Rattle.formats.specs.ResultLine.{resultSize}
 use Rattle.formats.specs.Running.{programWrites}
 use Rattle.formats.specs.Settle.{settling}
-use Rattle.formats.specs.Code.{RunCall, settleCode}
+use Rattle.formats.specs.Reason.{reason}
+use Rattle.formats.specs.Code.{RunCall, ReasonsCall, numberCode}
 use Rattle.running.specs.Answer.{Ran}
 use Rattle.running.specs.Settling.{settlingOf}
 use Rattle.running.specs.declared.RunAnswer.{RunAnswer}
 use Rattle.running.specs.declared.SettleAnswer.{SettleAnswer}
+use Rattle.reasons.specs.Answer.{reasonOfAnswer, Explained}
+use Rattle.reasons.specs.declared.ReasonAnswer.{ReasonAnswer}
 use Rattle.demands.specs.Written.{Wrote}
 
 -- Of running: equal buffers get equal answers, a refusal's number and line included, and are left with equal bytes; by the library's own contract, by the C
@@ -28,7 +31,15 @@ pub record RunAlike (a b : List ℕ) : Type 0 where
 -- Of settling: equal answers, the round or the refusal's number and line; by the library's own contract and by the C call's.
 pub record SettledAlike (a b : List ℕ) : Type 0 where
   pub settled : (answer answer′ : SettleAnswer) → settlingOf answer ≡ settling a → settlingOf answer′ ≡ settling b → answer ≡ answer′
-  pub called : (code code′ : ℕ) → code ≡ settleCode (settling a) → code′ ≡ settleCode (settling b) → code ≡ code′
+  pub called : (code code′ : ℕ) → code ≡ numberCode (settling a) → code′ ≡ numberCode (settling b) → code ≡ code′
+
+-- Of the reasons (Paper 7): equal answers, and equal bytes in equal buffers; by the library's own contract and by the C call's.
+pub record ExplainedAlike (a b : List ℕ) : Type 0 where
+  pub given : (p r : ℕ) (answer answer′ : ReasonAnswer) → reasonOfAnswer answer ≡ reason a p r → reasonOfAnswer answer′ ≡ reason b p r → answer ≡ answer′
+  pub called : (p r code code′ : ℕ) → code ≡ numberCode (reason a p r) → code′ ≡ numberCode (reason b p r) → code ≡ code′
+  pub allGiven : (before out out′ : List ℕ) (answer answer′ : RunAnswer) → Explained a before out answer → Explained b before out′ answer′
+      → (answer ≡ answer′) × (out ≡ out′)
+  pub allCalled : (before out out′ : List ℕ) (code code′ : ℕ) → ReasonsCall a before out code → ReasonsCall b before out′ code′ → (code ≡ code′) × (out ≡ out′)
 
 pub record LettersClaim : Type 0 where
   -- every text is read as its capitals are: one instance, or one refusal with its number and its line
@@ -37,6 +48,7 @@ pub record LettersClaim : Type 0 where
   pub read : (a b : List ℕ) → EqualUpToCase a b → readTicket a ≡ readTicket b
   pub run : (a b : List ℕ) → EqualUpToCase a b → RunAlike a b
   pub settle : (a b : List ℕ) → EqualUpToCase a b → SettledAlike a b
+  pub explain : (a b : List ℕ) → EqualUpToCase a b → ExplainedAlike a b
   -- a result that stands in a buffer has no small letter, nor has anything that the program writes
   pub result : (text : List ℕ) (x : Instance) (out : List ℕ) → Wrote text x out → InCapitals (take (resultSize (x .processes)) out)
   pub written : (text : List ℕ) → InCapitals (programWrites text)

@@ -10,5 +10,6 @@ pub mod SenderClaim
 pub mod RoomClaim
 pub mod IdleClaim
 pub mod SettlingClaim
+pub mod ReasonClaim
 pub mod LettersClaim
 pub mod Witnesses

@@ -8,7 +8,7 @@ use Rattle.coordinator.specs.FirstSettling.{FirstSettles, SettledSince}
 use Rattle.formats.specs.Reading.{accepted}
 use Rattle.formats.specs.Ticket.{readTicket}
 use Rattle.formats.specs.Settle.{settling}
-use Rattle.formats.specs.Code.{settleCode}
+use Rattle.formats.specs.Code.{numberCode}
 use Rattle.running.specs.Settling.{settlingOf}
 use Rattle.running.specs.declared.SettleAnswer.{SettleAnswer}
 use Rattle.running.specs.declared.SettleAnswer.the-variants.{Round}
@@ -17,7 +17,7 @@ pub record SettlingClaim : Type 0 where
   -- an accepted text is answered with a round, its first settling round, by the library's own contract and by the C call's
   pub named : (text : List ℕ) (x : Instance) (answer : SettleAnswer) → readTicket text ≡ accepted x → settlingOf answer ≡ settling text
       → (r : ℕ) × (answer ≡ Round r) × FirstSettles x r × SettledSince x r
-  pub called : (text : List ℕ) (x : Instance) (code : ℕ) → readTicket text ≡ accepted x → code ≡ settleCode (settling text)
+  pub called : (text : List ℕ) (x : Instance) (code : ℕ) → readTicket text ≡ accepted x → code ≡ numberCode (settling text)
       → FirstSettles x code × SettledSince x code
   -- a run has no other, so that two pages name the same
   pub only : (x : Instance) (r s : ℕ) → FirstSettles x r → FirstSettles x s → r ≡ s

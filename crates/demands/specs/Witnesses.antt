@@ -1,26 +1,31 @@
 -- The premises of the claims can be met: case 1 (document 01, 'Worked runs') is run, as it stands, in mixed letters and into a buffer that is too short, and
 -- paired with case 3 and with itself without its failure line; its lines say what counts of each process. (What else is answered on case 1 in mixed letters,
 -- and on refused texts in two letterings: formats/specs/LetteringCases.) Settling case 1 names a round below the run's last, and settling the further run
--- `crashesLater` one that is neither the first nor the last.
+-- `crashesLater` one that is neither the first nor the last. Reasons are given in cases 1 and 6, and all of case 1 are written.
 use mathlib.Core.List.{List, [], _∷_, _++_, map}
 use mathlib.Core.Option.{Option, some, none}
 use mathlib.Core.Path.{_≡_}
-use Prim.Native.Nat.{ℕ}
+use Prim.Native.Nat.{ℕ, _<_}
 use lib.ListN.{replicate}
 use Rattle.consensus.specs.Instance.{Instance}
-use Rattle.consensus.specs.Consensus.{Decides}
+use Rattle.consensus.specs.State.{crashed}
+use Rattle.consensus.specs.Consensus.{IsProcess, Decides}
 use Rattle.coordinator.specs.Run.{runOf, endOf}
+use Rattle.coordinator.specs.TrueReasons.{IsRound, StaysUp, endRound}
 use Rattle.formats.specs.Reading.{accepted}
 use Rattle.formats.specs.Ticket.{readTicket}
 use Rattle.formats.specs.Settle.{settling}
-use Rattle.formats.specs.Table.{textOf, opening, case1, case3}
+use Rattle.formats.specs.Reason.{reason}
+use Rattle.formats.specs.Table.{textOf, opening, case1, case3, case6}
 use Rattle.formats.specs.FurtherRuns.{crashesLater}
 use Rattle.formats.specs.LetterRuns.{case1Mixed}
-use Rattle.formats.specs.Code.{refusalCode, RunCall, settleCode}
+use Rattle.formats.specs.Code.{refusalsFrom, refusalCode, RunCall, ReasonsCall, numberCode}
 use Rattle.running.specs.Answer.{Ran}
 use Rattle.running.specs.declared.RunAnswer.the-variants.{Written}
 use Rattle.running.specs.Settling.{settlingOf}
 use Rattle.running.specs.declared.SettleAnswer.the-variants.{Round}
+use Rattle.reasons.specs.Answer.{reasonOfAnswer, Explained}
+use Rattle.reasons.specs.declared.ReasonAnswer.the-variants.{Reason}
 use Rattle.demands.specs.OutputSays.{Sent, Counts, sentSaid, sentOf}
 use Rattle.demands.specs.Written.{Wrote, CallWrote}
 use Rattle.demands.specs.SenderClaim.{MessagesSaid}
@@ -43,6 +48,10 @@ noCrashText = textOf (opening ++ ("04" ∷ []))
 -- The text of the further run `crashesLater`.
 unfoldable pub laterText : List ℕ
 laterText = textOf (crashesLater .ticket)
+
+-- Case 6's text.
+unfoldable pub silentText : List ℕ
+silentText = textOf (case6 .ticket)
 
 -- Two texts are accepted, and paired line by line and in what they describe; process 2 decides in the first in round r and in the second in round s.
 pub record PairMet (a b : List ℕ) (r s : ℕ) : Type 0 where
@@ -72,9 +81,37 @@ pub record SettledMet (text : List ℕ) (code rounds p v : ℕ) : Type 0 where
   pub instance : Instance
   pub read : readTicket text ≡ accepted instance
   pub answered : settlingOf (Round code) ≡ settling text
-  pub called : code ≡ settleCode (settling text)
+  pub called : code ≡ numberCode (settling text)
   pub last : runOf instance .rounds ≡ rounds
   pub decides : Decides instance (endOf instance) p rounds v
+
+-- A text is accepted, process p begins round r of its run undecided and stays up in it, and it is answered reason k there, in Rattle and in C; the process ends
+-- later, and `ended` is the round in which the round's coordinator ends.
+pub record ReasonMet (text : List ℕ) (p r k ended : ℕ) : Type 0 where
+  pub instance : Instance
+  pub read : readTicket text ≡ accepted instance
+  pub process : IsProcess instance p
+  pub round : IsRound instance r
+  pub stays : StaysUp instance p r
+  pub answered : reasonOfAnswer (Reason k) ≡ reason text p r
+  pub called : k ≡ numberCode (reason text p r)
+  pub later : r < endRound (endOf instance p)
+  pub coordinator : endRound (endOf instance r) ≡ ended
+
+-- A text is accepted, process p ends crashed in round q, and r is a later round of the run.
+pub record CrashMet (text : List ℕ) (p q r : ℕ) : Type 0 where
+  pub instance : Instance
+  pub read : readTicket text ≡ accepted instance
+  pub process : IsProcess instance p
+  pub ended : endOf instance p ≡ crashed q
+  pub round : IsRound instance r
+  pub later : endRound (endOf instance p) < r
+
+-- All reasons of a text are written into a buffer, in Rattle and in C.
+pub record ReasonsMet (text before after : List ℕ) (size : ℕ) : Type 0 where
+  pub answered : Explained text before after (Written size)
+  pub called : ReasonsCall text before after size
+  pub small : size < refusalsFrom
 
 abbrev pub sentAs : (dataSent commitsSent : ℕ) → Option Sent
 sentAs dataSent commitsSent = some (record { dataSent = dataSent; commitsSent = commitsSent })
@@ -89,6 +126,13 @@ pub record Witnesses : Type 0 where
       (record { rounds = 2; crashes = 1; speakers = 2; dataSent = 4; commitsSent = 2 })
   pub settled : SettledMet crashText 1 2 2 10
   pub settledLater : SettledMet laterText 2 3 3 30
+  -- process 3 hears the value only in round 1, whose coordinator crashes in it; and nothing in round 2 of case 6, whose coordinator crashed in round 1
+  pub explained : ReasonMet crashText 3 1 3 1
+  pub explainedSilent : ReasonMet silentText 3 2 4 1
+  -- process 1 crashes in round 1, of two
+  pub crashes : CrashMet crashText 1 1 2
+  -- the eight reasons, and behind them what stood there
+  pub allExplained : ReasonsMet crashText (replicate 9 165) (6 ∷ 3 ∷ 3 ∷ 2 ∷ 7 ∷ 1 ∷ 2 ∷ 7 ∷ 165 ∷ []) 8
   -- a buffer of 100 bytes is too short for it, and one of 101 is not
   pub short : RunCall crashText (replicate 100 165) (replicate 100 165) (refusalCode 9 0)
   pub fits : RunCall crashText (replicate 101 165) (textOf (case1 .output)) 101

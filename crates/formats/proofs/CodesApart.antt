@@ -1,128 +1,109 @@
 -- A C caller can tell answers apart by their numbers (`codes-apart`). Assumes nothing.
 use mathlib.Core.List.{List}
+use mathlib.Core.Logic.{inl, inr}
 use mathlib.Core.Path.{_≡_, refl}
 use mathlib.Core.Bool.{Bool, true, false, cond}
-use Prim.Native.Nat.{ℕ, _/_, _%_, _≤_, _<_}
+use Prim.Native.Nat.{ℕ, _≤_, _<_}
 use native.Mathlib.Omega.{arith}
 use lib.Dec.{ltb}
 use lib.ListN.{length}
 use Rattle.consensus.specs.Instance.{Instance}
-use Rattle.coordinator.specs.Settling.{firstSettling}
+use Rattle.coordinator.specs.Reason.{reasonOf, reasonsOf}
 use Rattle.coordinator.proofs.Counts.{counts-fit}
 use Rattle.coordinator.proofs.FirstSettling.{first-settling}
+use Rattle.coordinator.proofs.TrueReasons.{reason-within}
 use Rattle.formats.specs.Reading.{Reading, accepted, refused}
 use Rattle.formats.specs.Ticket.{readTicket}
 use Rattle.formats.proofs.WellFormed.{accepted-well-formed}
 use Rattle.formats.proofs.RefusalRange.{RefusedBy, lastRefused, ticket-refused}
 use Rattle.formats.specs.ResultLine.{resultText, resultSize}
 use Rattle.formats.proofs.ResultLength.{length-text}
+use Rattle.formats.proofs.ReasonsLength.{length-reasons, reasons-fit}
 use Rattle.formats.specs.Running.{resultIn, running}
 use Rattle.formats.specs.Settle.{settlingIn, settling}
-use Rattle.formats.specs.Code.{refusalsFrom, placesFrom, placedCode, runCode, settleCode}
-use Rattle.formats.specs.CodesApart.{TellsRefusal, TellsSize, TellsRound, TellsRun, TellsSettling, CodesApart}
+use Rattle.formats.specs.Reason.{withinRun, reasonIn, reason, reasonsSize, reasonsWithin, reasons}
+use Rattle.formats.specs.Code.{refusalsFrom, placedCode, codeOf}
+use Rattle.formats.specs.CodesApart.{TellsRefusal, Within, ReadOff, ofTicket, ofWriting, ofReason, CodesApart}
 
 -- Of every call: refusals have numbers below 65536, and so have lines.
-refusal-told : (most place number line : ℕ) → most < refusalsFrom → 1 ≤ number → number ≤ most → line < refusalsFrom
-    → TellsRefusal most place number line (placedCode place number line)
-refusal-told most place number line within some few short =
-    record { isRefusal = omega arith; readsPlace = omega arith; readsNumber = omega arith; readsLine = omega arith; first = some; last = few }
+refusal-told : (place number line : ℕ) → 1 ≤ number → number < refusalsFrom → line < refusalsFrom
+    → TellsRefusal place number line (placedCode place number line)
+refusal-told place number line some few short = record { isRefusal = omega arith; readsPlace = omega arith; readsNumber = omega arith; readsLine = omega arith }
 
-module _ (text : List ℕ) (room : ℕ) where
-  result-told : (x : Instance) → readTicket text ≡ accepted x → running text room ≡ accepted (resultText x) → TellsSize text room (length (resultText x))
-  unfolding resultSize
-  result-told x e ran =
-      let formed = accepted-well-formed text x e in
-      let size = length-text x formed in
+-- An answer is read off its code, whatever the call: where it accepts, and where it refuses.
+module _ {A : Type 0} (value : A → ℕ) (least most : ℕ) (numbers : ℕ → Type 0) where
+  accepted-read : most < refusalsFrom → (a : A) → Within least most (value a) → ReadOff value least most numbers (accepted a)
+  unfolding codeOf
+  accepted-read small a h = record { isAccepted = λ _. (a, refl, refl, h); isRefused = λ large. absurd (omega (arith, h .1)) }
+
+  refused-read : (number line : ℕ) → 1 ≤ number → number < refusalsFrom → line < refusalsFrom → numbers number
+      → ReadOff value least most numbers (refused number line)
+  unfolding codeOf
+  refused-read number line some few short h =
+      let told = refusal-told 0 number line some few short in
       record {
-        instance = x;
-        read = e;
-        ran = ran;
-        size = size;
-        least = omega (arith, size, formed .some-process);
-        most = omega (arith, size, formed .at-most-64);
+        isAccepted = λ low. absurd (omega (arith, told .isRefusal));
+        isRefused = λ _. (number, line, refl, h, told);
       }
 
-  accepted-told : (x : Instance) (short : Bool) → readTicket text ≡ accepted x → ltb room (resultSize (x .processes)) ≡ short
-      → TellsRun text room (cond short (refused 9 0) (accepted (resultText x))) (runCode (cond short (refused 9 0) (accepted (resultText x))))
-  unfolding TellsRun runCode running resultIn
-  accepted-told x true e h = refusal-told 9 0 9 0 (omega arith) (omega arith) (omega arith) (omega arith)
-  accepted-told x false e h = result-told x e (rw (e, h) refl)
+module _ (text : List ℕ) (x : Instance) (read : readTicket text ≡ accepted x) where
+  result-read : (short : Bool) → ReadOff length (resultSize 1) (resultSize 64) ofWriting (cond short (refused 9 0) (accepted (resultText x)))
+  unfolding resultSize
+  result-read true = refused-read _ _ _ _ 9 0 (omega arith) (omega arith) (omega arith) (omega arith, omega arith)
+  result-read false =
+      let formed = accepted-well-formed text x read in
+      let size = length-text x formed in
+      accepted-read _ _ _ _ (omega arith) (resultText x) (omega (arith, size, formed .some-process), omega (arith, size, formed .at-most-64))
 
-  reading-told : (reading : Reading Instance) → readTicket text ≡ reading → RefusedBy lastRefused reading
-      → TellsRun text room (resultIn room reading) (runCode (resultIn room reading))
-  unfolding TellsRun runCode resultIn RefusedBy
-  reading-told (accepted x) e h = accepted-told x (ltb room (resultSize (x .processes))) e refl
-  reading-told (refused number line) e h = refusal-told 9 0 number line (omega arith) (h .0) (omega (arith, h .1)) (omega (arith, h .2))
+  reasons-read : (short : Bool) → ReadOff length 1 4096 ofWriting (cond short (refused 9 0) (accepted (reasonsOf x)))
+  reasons-read true = refused-read _ _ _ _ 9 0 (omega arith) (omega arith) (omega arith) (omega arith, omega arith)
+  reasons-read false =
+      let (some, few) = reasons-fit x (accepted-well-formed text x read) in
+      let size = length-reasons x in
+      accepted-read _ _ _ _ (omega arith) (reasonsOf x) (omega arith, omega arith)
 
-  run-told : TellsRun text room (running text room) (runCode (running text room))
-  unfolding running
-  run-told = reading-told (readTicket text) refl (ticket-refused text)
+  reason-read : (p r : ℕ) (known : Bool) → ReadOff (λ k. k) 1 7 ofReason (cond known (accepted (reasonOf x p r)) (refused 13 0))
+  reason-read p r true = accepted-read _ _ _ _ (omega arith) (reasonOf x p r) (reason-within x p r)
+  reason-read p r false = refused-read _ _ _ _ 13 0 (omega arith) (omega arith) (omega arith) (inr refl)
 
-  size-read : (answer : Reading (List ℕ)) (code : ℕ) → TellsRun text room answer code → code < refusalsFrom → TellsSize text room code
-  unfolding TellsRun
-  size-read (accepted result) code told small = told
-  size-read (refused number line) code told small = absurd (omega (arith, told .isRefusal))
-
-  refusal-read : (answer : Reading (List ℕ)) (code : ℕ) → TellsRun text room answer code → refusalsFrom ≤ code
-      → answer ≡ refused (code / refusalsFrom % refusalsFrom) (code % refusalsFrom)
-  unfolding TellsRun resultSize
-  refusal-read (accepted result) code told large = absurd (omega (arith, told .most))
-  refusal-read (refused number line) code told large = rw (told .readsNumber, told .readsLine) refl
-
-  run-placeless : (answer : Reading (List ℕ)) (code : ℕ) → TellsRun text room answer code → code < placesFrom
-  unfolding TellsRun resultSize
-  run-placeless (accepted result) code told = omega (arith, told .most)
-  run-placeless (refused number line) code told = omega (arith, told .readsPlace)
-
--- A settling round is one of the run's, of which there are at most 64.
-round-told : (text : List ℕ) (x : Instance) → readTicket text ≡ accepted x → TellsRound text (firstSettling x)
-round-told text x e =
-    let formed = accepted-well-formed text x e in
-    let (some, within) = first-settling x formed .within in
-    record { instance = x; read = e; round = refl; least = some; most = omega (arith, counts-fit x formed .rounds) }
-
+-- The four calls, by what reading the ticket answers.
 module _ (text : List ℕ) where
-  answer-told : (reading : Reading Instance) → readTicket text ≡ reading → RefusedBy lastRefused reading
-      → TellsSettling text (settlingIn reading) (settleCode (settlingIn reading))
-  unfolding TellsSettling settleCode settlingIn RefusedBy
-  answer-told (accepted x) e h = round-told text x e
-  answer-told (refused number line) e h = refusal-told 8 0 number line (omega arith) (h .0) (h .1) (omega (arith, h .2))
+  run-read : (room : ℕ) (reading : Reading Instance) → readTicket text ≡ reading → RefusedBy lastRefused reading
+      → ReadOff length (resultSize 1) (resultSize 64) ofWriting (resultIn room reading)
+  unfolding resultIn RefusedBy resultSize
+  run-read room (accepted x) e h = result-read text x e (ltb room (resultSize (x .processes)))
+  run-read room (refused number line) e h =
+      refused-read _ _ _ _ number line (h .0) (omega (arith, h .1)) (omega (arith, h .2)) (h .0, omega (arith, h .1))
 
-  settling-told : TellsSettling text (settling text) (settleCode (settling text))
-  unfolding settling
-  settling-told = answer-told (readTicket text) refl (ticket-refused text)
+  -- A settling round is one of the run's, of which there are at most 64.
+  settling-read : (reading : Reading Instance) → readTicket text ≡ reading → RefusedBy lastRefused reading → ReadOff (λ r. r) 1 64 ofTicket (settlingIn reading)
+  unfolding settlingIn RefusedBy
+  settling-read (accepted x) e h =
+      let formed = accepted-well-formed text x e in
+      let (some, within) = first-settling x formed .within in
+      accepted-read _ _ _ _ (omega arith) _ (some, omega (arith, counts-fit x formed .rounds))
+  settling-read (refused number line) e h = refused-read _ _ _ _ number line (h .0) (omega (arith, h .1)) (omega (arith, h .2)) (h .0, h .1)
 
-  round-read : (answer : Reading ℕ) (code : ℕ) → TellsSettling text answer code → code < refusalsFrom → TellsRound text code
-  unfolding TellsSettling
-  round-read (accepted r) code told small = told
-  round-read (refused number line) code told small = absurd (omega (arith, told .isRefusal))
+  given-read : (p r : ℕ) (reading : Reading Instance) → readTicket text ≡ reading → RefusedBy lastRefused reading
+      → ReadOff (λ k. k) 1 7 ofReason (reasonIn p r reading)
+  unfolding reasonIn RefusedBy
+  given-read p r (accepted x) e h = reason-read text x e p r (withinRun x p r)
+  given-read p r (refused number line) e h = refused-read _ _ _ _ number line (h .0) (omega (arith, h .1)) (omega (arith, h .2)) (inl (h .0, h .1))
 
-  unsettled-read : (reading : Reading Instance) (code : ℕ) → TellsSettling text (settlingIn reading) code → refusalsFrom ≤ code
-      → reading ≡ refused (code / refusalsFrom % refusalsFrom) (code % refusalsFrom)
-  unfolding TellsSettling settlingIn
-  unsettled-read (accepted x) code told large = absurd (omega (arith, told .most))
-  unsettled-read (refused number line) code told large = rw (told .readsNumber, told .readsLine) refl
-
-  settling-placeless : (answer : Reading ℕ) (code : ℕ) → TellsSettling text answer code → code < placesFrom
-  unfolding TellsSettling
-  settling-placeless (accepted r) code told = omega (arith, told .most)
-  settling-placeless (refused number line) code told = omega (arith, told .readsPlace)
-
-settled-refused : (text : List ℕ) (code : ℕ) → code ≡ settleCode (settling text) → refusalsFrom ≤ code
-    → readTicket text ≡ refused (code / refusalsFrom % refusalsFrom) (code % refusalsFrom)
-unfolding settling
-settled-refused text code e large = unsettled-read text (readTicket text) code (rw e (settling-told text)) large
+  all-read : (room : ℕ) (reading : Reading Instance) → readTicket text ≡ reading → RefusedBy lastRefused reading
+      → ReadOff length 1 4096 ofWriting (reasonsWithin room reading)
+  unfolding reasonsWithin RefusedBy
+  all-read room (accepted x) e h = reasons-read text x e (ltb room (reasonsSize x))
+  all-read room (refused number line) e h =
+      refused-read _ _ _ _ number line (h .0) (omega (arith, h .1)) (omega (arith, h .2)) (h .0, omega (arith, h .1))
 
 pub codes-apart : CodesApart
+unfolding running settling reason reasons
 codes-apart =
     record {
       placed = refusal-told;
-      run = run-told;
-      runAccepted = λ text room code e small. size-read text room (running text room) code (rw e (run-told text room)) small;
-      runRefused = λ text room code e large. refusal-read text room (running text room) code (rw e (run-told text room)) large;
-      runPlaceless = λ text room code e. run-placeless text room (running text room) code (rw e (run-told text room));
-      settled = settling-told;
-      settledAccepted = λ text code e small. round-read text (settling text) code (rw e (settling-told text)) small;
-      settledRefused = settled-refused;
-      settledPlaceless = λ text code e. settling-placeless text (settling text) code (rw e (settling-told text));
+      run = λ text room. run-read text room (readTicket text) refl (ticket-refused text);
+      settled = λ text. settling-read text (readTicket text) refl (ticket-refused text);
+      reasonGiven = λ text p r. given-read text p r (readTicket text) refl (ticket-refused text);
+      reasonsWritten = λ text room. all-read text room (readTicket text) refl (ticket-refused text);
     }

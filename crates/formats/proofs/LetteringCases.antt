@@ -33,7 +33,10 @@ use Rattle.formats.specs.Ticket.{atEnd, readTicket}
 use Rattle.formats.specs.ResultLine.{endBytes, processLine, lastLine, joined, lineBy, processLines, resultLines, resultText, resultSize}
 use Rattle.formats.specs.Running.{resultIn, running, bufferAfter}
 use Rattle.formats.specs.Settle.{settlingIn, settling}
-use Rattle.formats.specs.Code.{refusalCode, runCode, settleCode}
+use Rattle.general.specs.Table.{tabulate}
+use Rattle.coordinator.specs.Reason.{stateAtStart, heardIn, reasonHearing, reasonFrom, reasonOf, reasonsIn, reasonsTo, reasonsOf}
+use Rattle.formats.specs.Reason.{withinRun, reasonIn, reason, reasonsSize, reasonsWithin, reasons}
+use Rattle.formats.specs.Code.{codeOf, refusalCode}
 use Rattle.formats.specs.Capitals.{capital, EqualUpToCase, InCapitals}
 use Rattle.formats.specs.LetteringCases.{TwoLetterings, LetteringCases}
 use Rattle.formats.specs.LetterRuns.{case1Mixed}
@@ -54,8 +57,8 @@ different a b i other e = other (ap (λ (l : List ℕ). getD l i 0) e)
 abbrev buffer : List ℕ
 buffer = replicate 120 165
 
-accepted-texts : TwoLetterings (textOf (case1 .ticket)) (textOf (case1Mixed .ticket)) 101 1
-unfolding EqualUpToCase capital settling settlingIn lowestFrom firstSettling settleCode bufferAfter valuesHeld allAre oneValue qualifies runCode textOf ascii member number numberFrom bytesOf mapFrom countFrom countOf addAt pointFrom faultOf withinLimits arriving getsData getsCommit sends receives amongFirst reachAt reachIn reach stateOf crashesIn sentBy received afterOutcome after statesAfter isUndecided anyUndecided speaks carries carriedIn dataIn commitsIn isIdle countsAsCrash crashCount initial withRound runTo runOf sentAfter dataBy commitsBy crashesOf digitValue isDigit scan closed unclosed linesFrom linesOf proceed readFrom isKind headerSays afterProposal proposalSays failureLine placesCrash allBetween suitsStep crashSays failureSays lineSays unproposed withProposal withCrash begin store accept atEnd readTicket digitOf hexDigits hexLine endBytes processLine lastLine joined lineBy processLines resultLines resultText resultSize resultIn running
+accepted-texts : TwoLetterings (textOf (case1 .ticket)) (textOf (case1Mixed .ticket)) 101 1 2 8
+unfolding withinRun reasonIn reason reasonsSize reasonsWithin reasons tabulate stateAtStart heardIn reasonHearing reasonFrom reasonOf reasonsIn reasonsTo reasonsOf EqualUpToCase capital settling settlingIn lowestFrom firstSettling codeOf bufferAfter valuesHeld allAre oneValue qualifies textOf ascii member number numberFrom bytesOf mapFrom countFrom countOf addAt pointFrom faultOf withinLimits arriving getsData getsCommit sends receives amongFirst reachAt reachIn reach stateOf crashesIn sentBy received afterOutcome after statesAfter isUndecided anyUndecided speaks carries carriedIn dataIn commitsIn isIdle countsAsCrash crashCount initial withRound runTo runOf sentAfter dataBy commitsBy crashesOf digitValue isDigit scan closed unclosed linesFrom linesOf proceed readFrom isKind headerSays afterProposal proposalSays failureLine placesCrash allBetween suitsStep crashSays failureSays lineSays unproposed withProposal withCrash begin store accept atEnd readTicket digitOf hexDigits hexLine endBytes processLine lastLine joined lineBy processLines resultLines resultText resultSize resultIn running
 accepted-texts =
     record {
       differ = different (textOf (case1 .ticket)) (textOf (case1Mixed .ticket)) 18 (λ e. omega arith);
@@ -66,10 +69,15 @@ accepted-texts =
       second = record { answered = refl; buffer = refl };
       firstSettles = refl;
       secondSettles = refl;
+      firstReason = refl;
+      secondReason = refl;
+      explained = bufferAfter (reasons (textOf (case1 .ticket)) 120) buffer;
+      firstExplains = record { answered = refl; buffer = refl };
+      secondExplains = record { answered = refl; buffer = refl };
     }
 
-refused-texts : TwoLetterings (textOf ("01040G" ∷ [])) (textOf ("01040g" ∷ [])) (refusalCode 2 1) (refusalCode 2 1)
-unfolding EqualUpToCase capital settling settlingIn settleCode bufferAfter runCode running resultIn textOf ascii digitValue isDigit scan closed unclosed linesFrom linesOf readFrom readTicket
+refused-texts : TwoLetterings (textOf ("01040G" ∷ [])) (textOf ("01040g" ∷ [])) (refusalCode 2 1) (refusalCode 2 1) (refusalCode 2 1) (refusalCode 2 1)
+unfolding reasonIn reason reasonsWithin reasons EqualUpToCase capital settling settlingIn codeOf bufferAfter running resultIn textOf ascii digitValue isDigit scan closed unclosed linesFrom linesOf readFrom readTicket
 refused-texts =
     record {
       differ = different (textOf ("01040G" ∷ [])) (textOf ("01040g" ∷ [])) 5 (λ e. omega arith);
@@ -80,6 +88,11 @@ refused-texts =
       second = record { answered = refl; buffer = refl };
       firstSettles = refl;
       secondSettles = refl;
+      firstReason = refl;
+      secondReason = refl;
+      explained = buffer;
+      firstExplains = record { answered = refl; buffer = refl };
+      secondExplains = record { answered = refl; buffer = refl };
     }
 
 pub lettering-cases : LetteringCases

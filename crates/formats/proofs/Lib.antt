@@ -9,6 +9,7 @@ pub mod RefusalRange
 pub mod ReadingCases
 pub mod ByteCases
 pub mod AnswerCases
+pub mod ReasonCases
 pub mod Described
 pub mod Marked
 pub mod Worked
@@ -19,5 +20,6 @@ pub mod LineSteps
 pub mod LineReadBack
 pub mod InCapitals
 pub mod ResultLength
+pub mod ReasonsLength
 pub mod CodesApart
 pub mod FirstWrong

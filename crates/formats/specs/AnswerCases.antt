@@ -10,7 +10,7 @@ use Rattle.formats.specs.ResultLine.{resultSize}
 use Rattle.formats.specs.Reading.{refused}
 use Rattle.formats.specs.Running.{running, programWrites}
 use Rattle.formats.specs.Settle.{settling}
-use Rattle.formats.specs.Code.{placedCode, runCode, settleCode}
+use Rattle.formats.specs.Code.{placedCode, sizeCode, numberCode}
 use Rattle.formats.specs.Table.{textOf, case1, case6, case10Passes, case12}
 use Rattle.formats.specs.ReadingCases.{afterOpening}
 
@@ -43,8 +43,8 @@ pub record RefusalCases : Type 0 where
 -- case 6; and refusal 8 at line 6 of the second ticket of several.
 unfoldable pub CodeCases : Type 0
 CodeCases =
-    runCode (running (textOf (case12 .ticket)) 0) ∷ runCode (running (textOf (case1 .ticket)) 100) ∷ runCode (running (textOf (case1 .ticket)) 101)
-    ∷ settleCode (settling (textOf (case12 .ticket))) ∷ settleCode (settling (textOf (case6 .ticket))) ∷ placedCode 2 8 6 ∷ []
+    sizeCode (running (textOf (case12 .ticket)) 0) ∷ sizeCode (running (textOf (case1 .ticket)) 100) ∷ sizeCode (running (textOf (case1 .ticket)) 101)
+    ∷ numberCode (settling (textOf (case12 .ticket))) ∷ numberCode (settling (textOf (case6 .ticket))) ∷ placedCode 2 8 6 ∷ []
     ≡ 524294 ∷ 589824 ∷ 101 ∷ 524294 ∷ 3 ∷ 8590458886 ∷ []
 
 -- The room that a result needs (document 02, Paper 2: "Refusal 9 now means output shorter than 21n + 17 bytes"), and the most that one has.

@@ -1,64 +1,54 @@
--- What a C caller reads off the number that `uc_run` or `uc_settle` answers, so that answers can be told apart. Document 01 leaves the numbers open
+-- What a C caller reads off the number that a call with a ticket answers, so that answers can be told apart. Document 01 leaves the numbers open
 -- (include/agreement.h; docs/DECISIONS.md, S5), and the claims over C calls are stated in them (`Demand1`, demands/specs).
 use mathlib.Core.List.{List}
 use mathlib.Core.Path.{_≡_}
+use mathlib.Core.Logic.{_⊎_}
 use Prim.Native.Nat.{ℕ, _/_, _%_, _≤_, _<_}
-use Rattle.consensus.specs.Instance.{Instance}
-use Rattle.coordinator.specs.Settling.{firstSettling}
+use lib.ListN.{length}
 use Rattle.formats.specs.Reading.{Reading, accepted, refused}
-use Rattle.formats.specs.Ticket.{readTicket}
-use Rattle.formats.specs.ResultLine.{resultText, resultSize}
+use Rattle.formats.specs.ResultLine.{resultSize}
 use Rattle.formats.specs.Running.{running}
 use Rattle.formats.specs.Settle.{settling}
-use Rattle.formats.specs.Code.{refusalsFrom, placesFrom, placedCode, runCode, settleCode}
+use Rattle.formats.specs.Reason.{reason, reasons}
+use Rattle.formats.specs.Code.{refusalsFrom, placesFrom, placedCode, codeOf}
 
--- The code of a refusal: its place, its number, from 1 to `most`, and its line are read off by division.
-pub record TellsRefusal (most place number line code : ℕ) : Type 0 where
+-- The code of a refusal: its place, its number and its line are read off by division.
+pub record TellsRefusal (place number line code : ℕ) : Type 0 where
   pub isRefusal : refusalsFrom ≤ code
   pub readsPlace : code / placesFrom ≡ place
   pub readsNumber : code / refusalsFrom % refusalsFrom ≡ number
   pub readsLine : code % refusalsFrom ≡ line
-  pub first : 1 ≤ number
-  pub last : number ≤ most
 
--- The code of a result: its size, by the ticket's n.
-pub record TellsSize (text : List ℕ) (room code : ℕ) : Type 0 where
-  pub instance : Instance
-  pub read : readTicket text ≡ accepted instance
-  pub ran : running text room ≡ accepted (resultText instance)
-  pub size : code ≡ resultSize (instance .processes)
-  pub least : resultSize 1 ≤ code
-  pub most : code ≤ resultSize 64
+-- A number from `least` to `most`.
+abbrev pub Within : (least most code : ℕ) → Type 0
+Within least most code = (least ≤ code) × (code ≤ most)
 
--- The code of a round: the settling round of the ticket.
-pub record TellsRound (text : List ℕ) (code : ℕ) : Type 0 where
-  pub instance : Instance
-  pub read : readTicket text ≡ accepted instance
-  pub round : code ≡ firstSettling instance
-  pub least : 1 ≤ code
-  pub most : code ≤ 64
+-- What is read off the code of a call's answer. Where the call accepts, `value` is the number of what it answers, from `least` to `most`; `numbers` are
+-- those that it refuses with.
+pub record ReadOff {A : Type 0} (value : A → ℕ) (least most : ℕ) (numbers : ℕ → Type 0) (answer : Reading A) : Type 0 where
+  -- below `refusalsFrom` it is the number of what was accepted
+  pub isAccepted : codeOf value answer < refusalsFrom
+      → (a : A) × (answer ≡ accepted a) × (codeOf value answer ≡ value a) × Within least most (codeOf value answer)
+  -- from there on it is a refusal, with its number and its line
+  pub isRefused : refusalsFrom ≤ codeOf value answer
+      → (number : ℕ) × (line : ℕ) × (answer ≡ refused number line) × numbers number × TellsRefusal 0 number line (codeOf value answer)
 
--- The code of an answer of running, and of settling.
-unfoldable pub TellsRun : (text : List ℕ) → (room : ℕ) → Reading (List ℕ) → (code : ℕ) → Type 0
-TellsRun text room (accepted result) code = TellsSize text room code
-TellsRun text room (refused number line) code = TellsRefusal 9 0 number line code
+-- The numbers of refusals: up to 8, those of reading a ticket; up to 9 where the call writes; and 13 beside the first, where it is asked for a process and
+-- a round.
+abbrev pub ofTicket : ℕ → Type 0
+ofTicket number = Within 1 8 number
 
-unfoldable pub TellsSettling : (text : List ℕ) → Reading ℕ → (code : ℕ) → Type 0
-TellsSettling text (accepted r) code = TellsRound text code
-TellsSettling text (refused number line) code = TellsRefusal 8 0 number line code
+abbrev pub ofWriting : ℕ → Type 0
+ofWriting number = Within 1 9 number
 
--- Every refusal with a place is read off its code. Every answer's code tells it; a code is at least `refusalsFrom` just if the answer is the refusal that
--- is read off it; and neither call names a place.
+abbrev pub ofReason : ℕ → Type 0
+ofReason number = ofTicket number ⊎ (number ≡ 13)
+
+-- Every refusal with a place is read off its code, and so is every answer of the four calls.
 pub record CodesApart : Type 0 where
-  pub placed : (most place number line : ℕ) → most < refusalsFrom → 1 ≤ number → number ≤ most → line < refusalsFrom
-      → TellsRefusal most place number line (placedCode place number line)
-  pub run : (text : List ℕ) (room : ℕ) → TellsRun text room (running text room) (runCode (running text room))
-  pub runAccepted : (text : List ℕ) (room code : ℕ) → code ≡ runCode (running text room) → code < refusalsFrom → TellsSize text room code
-  pub runRefused : (text : List ℕ) (room code : ℕ) → code ≡ runCode (running text room) → refusalsFrom ≤ code
-      → running text room ≡ refused (code / refusalsFrom % refusalsFrom) (code % refusalsFrom)
-  pub runPlaceless : (text : List ℕ) (room code : ℕ) → code ≡ runCode (running text room) → code < placesFrom
-  pub settled : (text : List ℕ) → TellsSettling text (settling text) (settleCode (settling text))
-  pub settledAccepted : (text : List ℕ) (code : ℕ) → code ≡ settleCode (settling text) → code < refusalsFrom → TellsRound text code
-  pub settledRefused : (text : List ℕ) (code : ℕ) → code ≡ settleCode (settling text) → refusalsFrom ≤ code
-      → readTicket text ≡ refused (code / refusalsFrom % refusalsFrom) (code % refusalsFrom)
-  pub settledPlaceless : (text : List ℕ) (code : ℕ) → code ≡ settleCode (settling text) → code < placesFrom
+  pub placed : (place number line : ℕ) → 1 ≤ number → number < refusalsFrom → line < refusalsFrom
+      → TellsRefusal place number line (placedCode place number line)
+  pub run : (text : List ℕ) (room : ℕ) → ReadOff length (resultSize 1) (resultSize 64) ofWriting (running text room)
+  pub settled : (text : List ℕ) → ReadOff (λ r. r) 1 64 ofTicket (settling text)
+  pub reasonGiven : (text : List ℕ) (p r : ℕ) → ReadOff (λ k. k) 1 7 ofReason (reason text p r)
+  pub reasonsWritten : (text : List ℕ) (room : ℕ) → ReadOff length 1 4096 ofWriting (reasons text room)

@@ -11,6 +11,7 @@ pub mod HexText
 pub mod ResultLine
 pub mod Running
 pub mod Settle
+pub mod Reason
 pub mod Table
 pub mod FurtherRuns
 pub mod LetterRuns
@@ -18,6 +19,7 @@ pub mod LetteringCases
 pub mod ReadingCases
 pub mod ByteCases
 pub mod AnswerCases
+pub mod ReasonCases
 pub mod Described
 pub mod Marked
 pub mod Worked

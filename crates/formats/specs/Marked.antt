@@ -1,10 +1,14 @@
--- What the program writes for a marked case, and what document 01 says that it writes ('Worked runs'); and what settling answers on it (document 02, Paper 6).
+-- What the program writes for a marked case, and what document 01 says that it writes ('Worked runs'); what settling answers on it, and the
+-- reasons (document 02, Papers 6 and 7).
 use mathlib.Core.List.{List, [], _∷_, _++_, map}
 use mathlib.Core.Path.{_≡_}
-use Prim.Native.Nat.{ℕ}
-use Rattle.formats.specs.Reading.{Reading}
+use Prim.Native.Nat.{ℕ, _-_}
+use Prim.Native.String.{String}
+use Rattle.general.specs.Text.{ascii}
+use Rattle.formats.specs.Reading.{Reading, accepted, refused}
 use Rattle.formats.specs.Running.{programWrites}
 use Rattle.formats.specs.Settle.{settling}
+use Rattle.formats.specs.Reason.{reasons}
 use Rattle.formats.specs.Table.{Case, textOf, cases}
 use Rattle.formats.specs.FurtherRuns.{furtherRuns}
 use Rattle.formats.specs.LetterRuns.{letterRuns}
@@ -21,6 +25,22 @@ expected c = textOf (c .output)
 unfoldable pub settles : Case → Reading ℕ
 settles c = settling (textOf (c .ticket))
 
+-- All reasons of the case's ticket, in a buffer that has room for them.
+unfoldable pub reasoned : Case → Reading (List ℕ)
+reasoned c = reasons (textOf (c .ticket)) 4096
+
+-- What the case says that they are: the digits of its lines, or the refusal that settling has too.
+unfoldable pub digitsOf : List String → List ℕ
+digitsOf [] = []
+digitsOf (line ∷ lines) = map (λ c. c - 48) (ascii line) ++ digitsOf lines
+
+unfoldable pub asSettled : Reading ℕ → List ℕ → Reading (List ℕ)
+asSettled (accepted r) digits = accepted digits
+asSettled (refused number line) digits = refused number line
+
+unfoldable pub expectedReasons : Case → Reading (List ℕ)
+expectedReasons c = asSettled (c .settled) (digitsOf (c .reasons))
+
 -- The claim: cases 1 to 12, each of them, are what the definitions give, from the ticket's text to the text written (document 01, 'Worked runs': "Cases 1
 -- to 12 are the marked ones"); and so are the further runs and those in small letters.
 pub record MarkedCases : Type 0 where
@@ -29,3 +49,5 @@ pub record MarkedCases : Type 0 where
   pub written : map writes (cases ++ furtherRuns ++ letterRuns) ≡ map expected (cases ++ furtherRuns ++ letterRuns)
   -- and so is what settling answers (document 02, Paper 6: "Case 1 gives 1")
   pub settled : map settles (cases ++ furtherRuns ++ letterRuns) ≡ map (λ (c : Case). c .settled) (cases ++ furtherRuns ++ letterRuns)
+  -- and so are the reasons (document 02, Paper 7)
+  pub explained : map reasoned (cases ++ furtherRuns ++ letterRuns) ≡ map expectedReasons (cases ++ furtherRuns ++ letterRuns)

@@ -27,6 +27,12 @@ pub struct Counts {
     pub settlings: u64,
     /// Settling rounds of the module under test that were held to their definition.
     pub settled: u64,
+    /// Calls that give one reason.
+    pub reasons: u64,
+    /// Calls that give all reasons of a run.
+    pub tables: u64,
+    /// Tables of the module under test that were held to what its separate parts hear.
+    pub heard: u64,
     /// Runs by separate local parts.
     pub separate_runs: u64,
     /// Results of the module under test whose counts by process were added up.
@@ -51,6 +57,7 @@ impl fmt::Display for Counts {
             f,
             "{} tickets ({} accepted, {} refused) in {} runs, {} settlings, \
              {} settling rounds held to what separate parts hold, \
+             {} single reasons, {} tables of reasons and {} held to what separate parts hear, \
              {} runs by separate parts, {} results added up and {} held to the bounds on messages \
              and on commits; \
              {} of these tickets with each of the 256 bytes in place of another; \
@@ -61,6 +68,9 @@ impl fmt::Display for Counts {
             self.runs,
             self.settlings,
             self.settled,
+            self.reasons,
+            self.tables,
+            self.heard,
             self.separate_runs,
             self.added_up,
             self.within_bounds,
@@ -93,15 +103,15 @@ pub enum Difference {
 /// Compares an implementation with the second one and counts.
 #[derive(Clone, Debug)]
 pub struct Comparison<M> {
-    module: M,
-    second: Simulator,
+    pub(crate) module: M,
+    pub(crate) second: Simulator,
     /// What has been compared so far.
     pub counts: Counts,
     fill: u8,
 }
 
 /// A buffer of `length` bytes and its guard, filled with bytes from `fill` on.
-fn filled(length: usize, fill: u8) -> Vec<u8> {
+pub(crate) fn filled(length: usize, fill: u8) -> Vec<u8> {
     (0..length + GUARD).map(|at| fill.wrapping_add(at as u8)).collect()
 }
 
@@ -111,7 +121,7 @@ fn hex(bytes: &[u8]) -> String {
 }
 
 /// An answer about a ticket in words.
-fn in_words(answer: u64) -> String {
+pub(crate) fn in_words(answer: u64) -> String {
     match (answer / REFUSED, answer % REFUSED) {
         (0, answer) => answer.to_string(),
         (number, line) => format!("refusal {number} at line {line}"),
@@ -119,11 +129,11 @@ fn in_words(answer: u64) -> String {
 }
 
 /// What the answers of the implementation under test are compared with.
-const IN_SECOND: &str = "in the second implementation";
-const IN_LETTERS: &str = "in other letters";
+pub(crate) const IN_SECOND: &str = "in the second implementation";
+pub(crate) const IN_LETTERS: &str = "in other letters";
 
 /// The first place where two equally long buffers differ.
-fn first_difference(under_test: &[u8], other: &[u8], in_other: &str) -> String {
+pub(crate) fn first_difference(under_test: &[u8], other: &[u8], in_other: &str) -> String {
     let mut pairs = under_test.iter().zip(other);
     match pairs.position(|(a, b)| a != b) {
         Some(at) => {
@@ -183,6 +193,11 @@ fn number_at(line: &[u8], place: usize, bytes: usize) -> Option<u64> {
     })
 }
 
+/// The rounds in the last line of a result.
+pub(crate) fn rounds_in(result: &[u8]) -> Option<u64> {
+    number_at(&result[result.len() - LAST_LINE_LENGTH..], 1, 1)
+}
+
 /// Whether a round is the settling round of a run whose rounds, from 1 on, qualify
 /// or not: it does, no lower one does, and every later one does (02, Paper 6).
 fn is_settling_round(round: u64, qualifies: &[bool]) -> bool {
@@ -190,13 +205,17 @@ fn is_settling_round(round: u64, qualifies: &[bool]) -> bool {
     is_of_run && (1..).zip(qualifies).all(|(other, &one)| one == (round <= other))
 }
 
+/// A seed for what is by chance about a text; equal texts give equal ones.
+pub(crate) fn seed_of(text: &[u8]) -> u64 {
+    text.iter().fold(0u64, |sum, &byte| sum.wrapping_mul(31).wrapping_add(u64::from(byte)))
+}
+
 /// The text in other letters, if it has any; equal texts give equal ones.
 fn relettered(text: &[u8]) -> Option<Vec<u8>> {
     if !text.iter().any(u8::is_ascii_alphabetic) {
         return None;
     }
-    let sum = text.iter().fold(0u64, |sum, &byte| sum.wrapping_mul(31) + u64::from(byte));
-    let mut rng = Rng::new(sum);
+    let mut rng = Rng::new(seed_of(text));
     loop {
         let other = generate::in_other_letters(&mut rng, text);
         if other != text {
@@ -212,14 +231,14 @@ impl<M: Agreement> Comparison<M> {
     }
 
     /// Another fill each time, so that no byte is right by chance for long.
-    fn next_fill(&mut self) -> u8 {
+    pub(crate) fn next_fill(&mut self) -> u8 {
         self.fill = self.fill.wrapping_add(101);
         self.fill
     }
 
     /// Everything about one ticket: runs with output buffers of the lengths
-    /// `rooms`, settling, separate local parts, by which settling is right too, and
-    /// the sums of the counts and their bounds.
+    /// `rooms`, settling, reasons, separate local parts, by which settling and reasons
+    /// are right too, and the sums of the counts and their bounds.
     pub fn ticket(&mut self, text: &[u8], rooms: &[usize]) -> Result<(), Difference> {
         let differs = |what| Difference::Ticket { text: text.to_vec(), what };
         for &room in rooms {
@@ -229,16 +248,18 @@ impl<M: Agreement> Comparison<M> {
         match Ticket::parse(text) {
             Ok(ticket) => {
                 self.counts.accepted += 1;
+                self.accepted_reasons(text, &ticket).map_err(differs)?;
                 let (_, output) = run_into(&mut self.module, text, LONGEST_RESULT, 0);
                 let result = &output[..result_length(ticket.n)];
                 let separate = self.separate_run(&ticket, result).map_err(differs)?;
                 self.keep_settled(settled, result, &separate).map_err(differs)?;
+                self.keep_reasons(text, result, &separate).map_err(differs)?;
                 self.add_up(result).map_err(differs)?;
                 self.keep_bounds(result).map_err(differs)
             }
             Err(_) => {
                 self.counts.refused += 1;
-                Ok(())
+                self.refused_reasons(text, settled).map_err(differs)
             }
         }
     }
@@ -275,7 +296,7 @@ impl<M: Agreement> Comparison<M> {
         separate: &SeparateRun,
     ) -> Result<(), String> {
         self.counts.settled += 1;
-        let rounds = number_at(&result[result.len() - LAST_LINE_LENGTH..], 1, 1);
+        let rounds = rounds_in(result);
         let qualifies = rounds.and_then(|rounds| separate.one_value.get(..rounds as usize));
         match qualifies {
             Some(qualifies) if is_settling_round(round, qualifies) => Ok(()),
@@ -290,7 +311,7 @@ impl<M: Agreement> Comparison<M> {
 
     /// The claim of Paper 1 about one ticket: in other letters, into an equal
     /// buffer of `room` bytes, it is answered alike, leaves the same bytes, and
-    /// settles alike. A text that has no letters is not counted.
+    /// settles alike and for the same reasons. A text that has no letters is not counted.
     pub fn in_other_letters(&mut self, text: &[u8], room: usize) -> Result<(), Difference> {
         let Some(other) = relettered(text) else {
             return Ok(());
@@ -303,11 +324,11 @@ impl<M: Agreement> Comparison<M> {
         alike(&ran, &other_ran, IN_LETTERS)
             .map_err(|what| differs(format!("running with {room} bytes of output {what}")))?;
         let [round, other_round] = [text, &other].map(|text| self.module.settle(text));
-        if round == other_round {
-            return Ok(());
+        if round != other_round {
+            let [round, other_round] = [round, other_round].map(in_words);
+            return Err(differs(format!("settling answers {round}, {IN_LETTERS} {other_round}")));
         }
-        let [round, other_round] = [round, other_round].map(in_words);
-        Err(differs(format!("settling answers {round}, {IN_LETTERS} {other_round}")))
+        self.reasons_in_other_letters(text, &other).map_err(differs)
     }
 
     /// Separate local parts against the lines of the module's own result: the
@@ -805,6 +826,14 @@ mod tests {
                 }
                 _ => answer,
             }
+        }
+
+        fn reason(&mut self, ticket: &[u8], process: u64, round: u64) -> u64 {
+            Agreement::reason(&mut self.0, ticket, process, round)
+        }
+
+        fn reasons(&mut self, ticket: &[u8], output: &mut [u8]) -> u64 {
+            Agreement::reasons(&mut self.0, ticket, output)
         }
 
         fn start(&mut self, process: u64, n: u64, t: u64, value: u32, state: &mut [u8]) -> u64 {

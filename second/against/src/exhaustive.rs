@@ -1,6 +1,6 @@
 //! Everything small, every byte at every place of a ticket, every count of a
-//! process, every settling round, the stored tickets, and every call of start, speak
-//! and close near a valid one.
+//! process, every settling round, every reason of some runs of each n, the stored
+//! tickets, and every call of start, speak and close near a valid one.
 
 use second::corpus::{self, Entry};
 use second::interface::Agreement;
@@ -187,6 +187,65 @@ fn settled_in_silence<M: Agreement>(
         if 1 < rounds && rounds < n {
             compare(2, silent.chain([Failure::before_sending(n, rounds - 1)]).collect())?;
         }
+    }
+    Ok(())
+}
+
+/// For each n every reason that a process can have in a round (02, Paper 7), and every
+/// single reason of some runs.
+pub fn reasons<M: Agreement>(comparison: &mut Comparison<M>) -> Result<(), Difference> {
+    (1..=MOST_PROCESSES).try_for_each(|n| {
+        reasons_of(comparison, n)?;
+        single_reasons_of(comparison, n)
+    })
+}
+
+/// Those of `n` processes: the first few crash, each before it sends anything in its
+/// own round, after all its data there, or in round 1; then the next coordinates, and
+/// those above it hear it, crash in its round, or have crashed in round 1.
+pub fn reasons_of<M: Agreement>(comparison: &mut Comparison<M>, n: u8) -> Result<(), Difference> {
+    let silent = |process| Failure::before_sending(process, process);
+    for first in 0..n {
+        let crash_in =
+            |round| (first + 2..=n).map(move |other| Failure::before_sending(other, round));
+        let ways: [Vec<Failure>; 5] = [
+            (1..=first).map(silent).collect(),
+            (1..=first).map(|process| Failure::sending_commits(process, 0)).collect(),
+            (1..=first).map(|process| Failure::before_sending(process, 1)).collect(),
+            (1..=first).map(silent).chain(crash_in(first + 1)).collect(),
+            (1..=first).map(silent).chain(crash_in(1)).collect(),
+        ];
+        for failures in ways {
+            compare_failures(comparison, n, failures)?;
+        }
+    }
+    Ok(())
+}
+
+/// Every single reason of runs of `n` processes, of which none crashes; or all but the
+/// last do, in their own rounds or at once before they send anything, or in their own
+/// while they send data to every second process, no commit, or two; or every third
+/// crashes in round 1, in which process 1 decides.
+pub fn single_reasons_of<M: Agreement>(
+    comparison: &mut Comparison<M>,
+    n: u8,
+) -> Result<(), Difference> {
+    let every_second = |process: u8| 0x5555_5555_5555_5555 & processes_above(process, n);
+    let crashing: [&dyn Fn(u8) -> Option<Failure>; 7] = [
+        &|_| None,
+        &|process| Some(Failure::before_sending(process, process)),
+        &|process| Some(Failure::before_sending(process, 1)),
+        &|process| Some(Failure::sending_data(process, every_second(process))),
+        &|process| Some(Failure::sending_commits(process, 0)),
+        &|process| Some(Failure::sending_commits(process, (n - process).min(2))),
+        &|process| (process % 3 == 0).then(|| Failure::before_sending(process, 1)),
+    ];
+    for failure in crashing {
+        let failures: Vec<Failure> = (1..n).filter_map(failure).collect();
+        let proposals = (1..=u32::from(n)).map(|process| 10 * process).collect();
+        let ticket = Ticket { n, t: n - 1, proposals, failures };
+        let differs = |what| Difference::Ticket { text: ticket.text(), what };
+        comparison.every_reason(&ticket).map_err(differs)?;
     }
     Ok(())
 }
@@ -382,6 +441,16 @@ mod tests {
             self.second.settle(&ticket)
         }
 
+        fn reason(&mut self, ticket: &[u8], process: u64, round: u64) -> u64 {
+            let ticket = self.misread(ticket);
+            Agreement::reason(&mut self.second, &ticket, process, round)
+        }
+
+        fn reasons(&mut self, ticket: &[u8], output: &mut [u8]) -> u64 {
+            let ticket = self.misread(ticket);
+            Agreement::reasons(&mut self.second, &ticket, output)
+        }
+
         fn start(&mut self, process: u64, n: u64, t: u64, value: u32, state: &mut [u8]) -> u64 {
             self.second.start(process, n, t, value, state)
         }
@@ -406,12 +475,13 @@ mod tests {
     }
 
     /// What the second implementation was asked for: the counts that stand in its
-    /// results, of which process, which of the two, and how many; and each settling
-    /// round with the rounds of its run.
+    /// results, of which process, which of the two, and how many; each settling round
+    /// with the rounds of its run; and the reasons, of which process in which round.
     #[derive(Default)]
     struct Record {
         counts: BTreeSet<(u8, usize, u8)>,
         settled: BTreeSet<(u64, u8)>,
+        reasons: BTreeSet<(u8, u8, u8)>,
     }
 
     /// The second implementation, with a record.
@@ -439,6 +509,24 @@ mod tests {
             if let Ok(ticket) = Ticket::parse(ticket) {
                 let rounds = Simulation::new(&ticket).run(|_, _| {}).rounds;
                 self.record.borrow_mut().settled.insert((answer, rounds));
+            }
+            answer
+        }
+
+        fn reason(&mut self, ticket: &[u8], process: u64, round: u64) -> u64 {
+            Agreement::reason(&mut self.second, ticket, process, round)
+        }
+
+        fn reasons(&mut self, ticket: &[u8], output: &mut [u8]) -> u64 {
+            let answer = Agreement::reasons(&mut self.second, ticket, output);
+            let Some(table) = output.get(..answer as usize) else {
+                return answer;
+            };
+            let n = Ticket::parse(ticket).expect("an accepted ticket").n;
+            for (round, reasons) in (1..).zip(table.chunks(n.into())) {
+                for (process, &reason) in (1..).zip(reasons) {
+                    self.record.borrow_mut().reasons.insert((process, round, reason));
+                }
             }
             answer
         }
@@ -490,6 +578,32 @@ mod tests {
             };
             let all: BTreeSet<_> = (1..=n).flat_map(settled_in).collect();
             assert_eq!(recorded(settling_rounds_of, n).settled, all, "{n}");
+        }
+    }
+
+    /// Whether a process of `n` can have a reason in a round. Up and undecided in a round
+    /// are none but its coordinator and those above, and the last process in the last
+    /// round is alone.
+    fn is_possible(n: u8, process: u8, round: u8, reason: u8) -> bool {
+        let alone = process == n && round == n;
+        match reason {
+            1 => process == round,
+            2 | 3 | 5 => process > round,
+            4 => process > round && round > 1,
+            6 => process >= round && !alone,
+            _ => round > 1 && !alone,
+        }
+    }
+
+    #[test]
+    fn every_reason_that_a_process_can_have_in_a_round_is_given() {
+        for n in [1, 2, 3, 7, 12] {
+            let places = (1..=n).flat_map(|process| (1..=n).map(move |round| (process, round)));
+            let all: BTreeSet<_> = places
+                .flat_map(|(process, round)| (1..=7).map(move |reason| (process, round, reason)))
+                .filter(|&(process, round, reason)| is_possible(n, process, round, reason))
+                .collect();
+            assert_eq!(recorded(reasons_of, n).reasons, all, "{n}");
         }
     }
 

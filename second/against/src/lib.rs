@@ -1,9 +1,10 @@
 //! The proved static library against the second implementation.
 //!
-//! - [`proved`]: the library's five functions.
+//! - [`proved`]: the library's seven functions.
 //! - [`comparison`]: one call or one ticket, given to both.
+//! - `reasons`: of these, the reasons of a ticket's run.
 //! - [`exhaustive`]: the stored tickets, every small ticket, every count of a process,
-//!   every settling round, and every call near a valid one.
+//!   every settling round, every reason of some runs, and every call near a valid one.
 //! - [`random`]: tickets and calls by chance.
 //! - [`shrink`]: the smallest ticket that shows a difference.
 
@@ -13,4 +14,5 @@ pub mod comparison;
 pub mod exhaustive;
 pub mod proved;
 pub mod random;
+mod reasons;
 pub mod shrink;

@@ -1,10 +1,17 @@
-//! The five functions of `libagreement.a`.
+//! The seven functions of `libagreement.a`.
 
 use second::interface::Agreement;
 
 extern "C" {
     fn uc_run(ticket: *const u8, ticket_len: usize, output: *mut u8, output_len: usize) -> u64;
     fn uc_settle(ticket: *const u8, ticket_len: usize) -> u64;
+    fn uc_reason(ticket: *const u8, ticket_len: usize, process: u64, round: u64) -> u64;
+    fn uc_reasons(
+        ticket: *const u8,
+        ticket_len: usize,
+        reasons: *mut u8,
+        reasons_len: usize,
+    ) -> u64;
     fn uc_start(process: u64, n: u64, t: u64, value: u32, state: *mut u8, state_len: usize) -> u64;
     fn uc_speak(state: *const u8, state_len: usize, output: *mut u8, output_len: usize) -> u64;
     fn uc_close(state: *mut u8, state_len: usize, heard: *const u8, heard_len: usize) -> u64;
@@ -23,6 +30,14 @@ impl Agreement for Proved {
 
     fn settle(&mut self, ticket: &[u8]) -> u64 {
         unsafe { uc_settle(ticket.as_ptr(), ticket.len()) }
+    }
+
+    fn reason(&mut self, ticket: &[u8], process: u64, round: u64) -> u64 {
+        unsafe { uc_reason(ticket.as_ptr(), ticket.len(), process, round) }
+    }
+
+    fn reasons(&mut self, ticket: &[u8], output: &mut [u8]) -> u64 {
+        unsafe { uc_reasons(ticket.as_ptr(), ticket.len(), output.as_mut_ptr(), output.len()) }
     }
 
     fn start(&mut self, process: u64, n: u64, t: u64, value: u32, state: &mut [u8]) -> u64 {

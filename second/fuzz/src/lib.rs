@@ -39,6 +39,35 @@ pub unsafe extern "C" fn second_settle(ticket: *const u8, ticket_len: usize) -> 
 /// # Safety
 /// The pointer is not null and good for the length beside it.
 #[no_mangle]
+pub unsafe extern "C" fn second_reason(
+    ticket: *const u8,
+    ticket_len: usize,
+    process: u64,
+    round: u64,
+) -> u64 {
+    let ticket = slice::from_raw_parts(ticket, ticket_len);
+    with_second(|second| Agreement::reason(second, ticket, process, round))
+}
+
+/// # Safety
+/// The pointers are not null and good for the lengths beside them.
+#[no_mangle]
+pub unsafe extern "C" fn second_reasons(
+    ticket: *const u8,
+    ticket_len: usize,
+    reasons: *mut u8,
+    reasons_len: usize,
+) -> u64 {
+    let (ticket, reasons) = (
+        slice::from_raw_parts(ticket, ticket_len),
+        slice::from_raw_parts_mut(reasons, reasons_len),
+    );
+    with_second(|second| Agreement::reasons(second, ticket, reasons))
+}
+
+/// # Safety
+/// The pointer is not null and good for the length beside it.
+#[no_mangle]
 pub unsafe extern "C" fn second_start(
     process: u64,
     n: u64,

@@ -3,8 +3,10 @@
 use std::fmt;
 
 use super::model::{Counts, Messages, Run, State};
+use super::reasons::{given_is_true, one_is_true, tells_the_end, Situation};
 use super::rules::{right, Rules};
 use crate::process::{Process, Status};
+use crate::round_reason::MOST_REASONS;
 use crate::simulation::{Simulation, Totals};
 use crate::ticket::{processes_above, Crash, Failure, Ticket};
 use crate::worked;
@@ -71,8 +73,19 @@ pub enum Claim {
     /// What is decided is what each process that has not crashed holds, undecided or
     /// decided, at the end of the settling round and of every later one of the run.
     DecisionIsSettled,
+    /// The reason given of each process in each round of the run is true.
+    ReasonIsTrue,
+    /// Exactly one reason is true of it.
+    OneReasonIsTrue,
+    /// By the reason given it decides, crashes or had ended just if it is so.
+    ReasonTellsTheEnd,
+    /// A reason is given just of the processes that there are in the rounds of the run.
+    ReasonsOfTheRun,
+    /// No coordinator of a round of the run has decided before it.
+    CoordinatorsNotDecided,
     /// Without the failure lines that are idle the states after every round,
-    /// the counts, those of each process too, f and the settling round are the same.
+    /// the counts, those of each process too, f, the settling round and the reasons are
+    /// the same.
     IdleLinesChangeNothing,
     /// Case 7 without the failure lines that are idle is case 1, and so is case
     /// 1.
@@ -84,7 +97,7 @@ pub enum Claim {
 }
 
 /// All claims but those of the worked runs.
-pub const CLAIMS: [Claim; 28] = [
+pub const CLAIMS: [Claim; 33] = [
     Claim::Agreement,
     Claim::Validity,
     Claim::Termination,
@@ -110,6 +123,11 @@ pub const CLAIMS: [Claim; 28] = [
     Claim::StaysSettled,
     Claim::NoneDecidesBeforeSettling,
     Claim::DecisionIsSettled,
+    Claim::ReasonIsTrue,
+    Claim::OneReasonIsTrue,
+    Claim::ReasonTellsTheEnd,
+    Claim::ReasonsOfTheRun,
+    Claim::CoordinatorsNotDecided,
     Claim::IdleLinesChangeNothing,
     Claim::IdleLinesTakenOut,
     Claim::RefusesImpostors,
@@ -143,6 +161,11 @@ impl fmt::Display for Claim {
             Claim::StaysSettled => write!(f, "once settled, every later round qualifies"),
             Claim::NoneDecidesBeforeSettling => write!(f, "none decides before it"),
             Claim::DecisionIsSettled => write!(f, "what is decided is held from then on"),
+            Claim::ReasonIsTrue => write!(f, "the reason given is true"),
+            Claim::OneReasonIsTrue => write!(f, "exactly one reason is true"),
+            Claim::ReasonTellsTheEnd => write!(f, "reasons tell who decides and who crashes"),
+            Claim::ReasonsOfTheRun => write!(f, "reasons are given of the run alone"),
+            Claim::CoordinatorsNotDecided => write!(f, "no coordinator has decided before"),
             Claim::IdleLinesChangeNothing => write!(f, "idle lines change nothing"),
             Claim::IdleLinesTakenOut => write!(f, "case 7 without its idle line is case 1"),
             Claim::RefusesImpostors => write!(f, "wrong ends are refused"),
@@ -244,11 +267,19 @@ impl Claim {
                 let mut rounds = (rules.decision_held_from)(settled)..=run.counts.rounds;
                 rounds.all(|round| decisions(run).all(|(_, value)| all_hold(value, round, run)))
             }),
+            Claim::ReasonIsTrue => of_situations(run, rules, given_is_true),
+            Claim::OneReasonIsTrue => of_situations(run, rules, one_is_true),
+            Claim::ReasonTellsTheEnd => of_situations(run, rules, tells_the_end),
+            Claim::ReasonsOfTheRun => run.gives_reasons_of_the_run(rules),
+            Claim::CoordinatorsNotDecided => {
+                of_situations(run, rules, |at, rules| !(rules.never_before)(at.coordinator[0]))
+            }
             Claim::IdleLinesChangeNothing => {
                 let other = Run::new(&without_idle(ticket, run, rules), rules);
                 (&other.history, other.counts, &other.shown, other.f)
                     == (&run.history, run.counts, &run.shown, run.f)
                     && other.settling_round(rules) == run.settling_round(rules)
+                    && other.reasons(rules) == run.reasons(rules)
             }
             Claim::NoLater
             | Claim::IdleLinesTakenOut
@@ -256,6 +287,11 @@ impl Claim {
             | Claim::WorkedRun(_) => true,
         }
     }
+}
+
+/// Whether a claim holds of each process in each round of the run.
+fn of_situations(run: &Run, rules: &Rules, holds: fn(&Situation, &Rules) -> bool) -> bool {
+    run.situations(rules).iter().all(|situation| holds(situation, rules))
 }
 
 /// Whether there is a settling round and a claim holds of it.
@@ -387,6 +423,8 @@ pub struct Answer {
     pub settling_rounds: Vec<u8>,
     /// The one that is named.
     pub settling_round: Option<u8>,
+    /// The reasons of the run, round by round.
+    pub reasons: Vec<u8>,
 }
 
 /// What the model answers under `rules`.
@@ -400,6 +438,7 @@ pub fn answer(ticket: &Ticket, rules: &Rules) -> Answer {
         limits: ((rules.latest)(run.f), (rules.most_messages)(&run), (rules.most_commits)(&run)),
         settling_rounds: run.settling_rounds(rules),
         settling_round: run.settling_round(rules),
+        reasons: run.reasons(rules),
     }
 }
 
@@ -418,6 +457,9 @@ pub fn answer_of_simulation(ticket: &Ticket) -> Answer {
         Counts { rounds, speakers: speakers.into(), data: data.into(), commits: commits.into() };
     let (text, mut simulator) = (ticket.text(), Simulator::new());
     let most_messages = right::bound_by_speakers(ticket.n, counts.speakers);
+    let mut reasons = vec![0; MOST_REASONS];
+    let written = simulator.reasons(&text, &mut reasons).expect("an accepted ticket");
+    reasons.truncate(written);
     Answer {
         ends: ends.collect(),
         f: crashes,
@@ -426,5 +468,6 @@ pub fn answer_of_simulation(ticket: &Ticket) -> Answer {
         limits: (crashes + 1, most_messages, u64::from(ticket.n) - counts.speakers),
         settling_rounds: simulator.settling_rounds(&text).expect("an accepted ticket"),
         settling_round: simulator.settling_round(&text).ok(),
+        reasons,
     }
 }

@@ -16,6 +16,7 @@
 pub mod claims;
 pub mod impostors;
 pub mod model;
+pub mod reasons;
 pub mod rules;
 pub mod search;
 pub mod wrong;

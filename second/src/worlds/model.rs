@@ -247,13 +247,13 @@ impl Run {
     }
 
     /// What sending looks at in a round that begins with these states.
-    fn sending(&self, round: u8, states: &[State]) -> Sending {
+    pub(super) fn sending(&self, round: u8, states: &[State]) -> Sending {
         let ended = set_of(states, |_, state| !right::is_undecided(state));
         Sending { n: self.n, round, crashed: self.crashed_by(round, states), ended }
     }
 
     /// How far the messages of the round's coordinator get to process `to`.
-    fn reach(&self, sending: &Sending, to: u8, rules: &Rules) -> Reach {
+    pub(super) fn reach(&self, sending: &Sending, to: u8, rules: &Rules) -> Reach {
         let fault = self.fault((rules.coordinator)(sending.round, self.n));
         reach(sending, fault, to, rules)
     }

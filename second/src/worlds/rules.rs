@@ -1,6 +1,7 @@
 //! The rules that a world is made of, and the right ones.
 
 use super::model::{Addressee, Heard, Kind, Line, Messages, Reach, Run, Sending, State, Step};
+use super::reasons::Situation;
 use crate::ticket::Crash;
 
 /// The rules of a world: which failure patterns there are, what happens in a
@@ -74,6 +75,13 @@ pub struct Rules {
     /// The round that settling names, from the rounds that qualify, in order.
     pub settling_round: fn(&Run, qualify: &[u8]) -> Option<u8>,
 
+    /// The reason of a process in a round.
+    pub reason: fn(&Situation) -> u8,
+    /// All reasons of the run of n processes as they are listed.
+    pub reasons_listed: fn(n: u8, Vec<u8>) -> Vec<u8>,
+    /// Whether one is given at all, of a process and a round that may not be there.
+    pub reason_given: fn(process: u8, round: u8, &Run) -> bool,
+
     /// Claim: whether a process that decides is held to agreement, from whether
     /// it has a failure line.
     pub agrees: fn(has_line: bool) -> bool,
@@ -114,6 +122,10 @@ pub struct Rules {
     /// Claim: the first round at whose end all hold what is decided, from the settling
     /// round.
     pub decision_held_from: fn(settled: u8) -> u8,
+    /// Claim: whether a reason is true of a process in a round.
+    pub reason_is_true: fn(&Situation, reason: u8) -> bool,
+    /// Claim: whether no coordinator of a round of the run begins it in this state.
+    pub never_before: fn(State) -> bool,
     /// Claim: whether a failure line is left in the ticket without idle lines,
     /// from whether it is idle.
     pub line_left: fn(idle: bool) -> bool,
@@ -131,8 +143,8 @@ pub struct Rules {
     pub alike: fn(first: u32, second: u32) -> bool,
 }
 
-/// The right rules (01, "The ticket" and "A round"; demand 3; 02, Papers 2, 4
-/// and 6).
+/// The right rules (01, "The ticket" and "A round"; demand 3; 02, Papers 2, 4, 6
+/// and 7).
 pub const RIGHT: Rules = Rules {
     most_failures: |t| t,
     commit_step_in: |process, round| process == round,
@@ -163,6 +175,9 @@ pub const RIGHT: Rules = Rules {
     value_held: |state, _| right::value_held(state),
     one_value: |values| values.iter().all(|value| *value == values[0]),
     settling_round: |_, qualify| qualify.iter().copied().find(|&round| 1 <= round),
+    reason: Situation::reason,
+    reasons_listed: |_, reasons| reasons,
+    reason_given: right::reason_given,
     agrees: |_| true,
     is_of_run: |round, rounds| round <= rounds,
     latest: |f| f + 1,
@@ -181,6 +196,8 @@ pub const RIGHT: Rules = Rules {
     settled_up_to: |rounds| rounds,
     may_decide: |round, settled| settled <= round,
     decision_held_from: |settled| settled,
+    reason_is_true: Situation::is_true,
+    never_before: |state| matches!(state, State::Decided(..)),
     line_left: |idle| !idle,
     counts_paired: |first, second| first <= second,
     line_in_one: |first, second| right::is_commit_line(first) && second.is_none(),
@@ -240,6 +257,11 @@ pub mod right {
             State::Undecided(value) | State::Decided(_, value) => Some(value),
             State::Crashed(_) => None,
         }
+    }
+
+    /// Of processes 1 to n, in the rounds of the run.
+    pub fn reason_given(process: u8, round: u8, run: &Run) -> bool {
+        (1..=run.n).contains(&process) && (1..=run.counts.rounds).contains(&round)
     }
 
     /// k(2n − k − 1) − k(k − 1)/2.

@@ -2,6 +2,7 @@
 
 use super::claims::Claim::{self, *};
 use super::model::{Addressee, Heard, Kind, Reach, Run, Sending, State};
+use super::reasons::Situation;
 use super::rules::{right, Rules, RIGHT};
 use super::World;
 use crate::ticket::Crash;
@@ -9,7 +10,7 @@ use crate::ticket::Crash;
 /// Every wrong world.
 pub fn worlds() -> impl Iterator<Item = &'static World> {
     let of_rounds = [PATTERNS, ROUNDS, MISTAKES, IMPOSTORS];
-    let of_answers = [COUNTS, CARRIED, SHOWN, SETTLING, NAMED];
+    let of_answers = [COUNTS, CARRIED, SHOWN, SETTLING, NAMED, REASONED];
     of_rounds.into_iter().chain(of_answers).chain([CLAIMED, PAIRED]).flatten()
 }
 
@@ -97,7 +98,7 @@ const ROUNDS: &[World] = &[
     ),
     world(
         "coordinator/coordinator-waits-on",
-        &[Termination],
+        &[Termination, ReasonIsTrue, OneReasonIsTrue, ReasonTellsTheEnd, CoordinatorsNotDecided],
         Rules {
             receives: |step| match right::receives(step) {
                 State::Decided(_, value) if step.coordinates() => State::Undecided(value),
@@ -116,6 +117,10 @@ const ROUNDS: &[World] = &[
             SettlingRoundIsOfRun,
             SettlingRoundQualifies,
             NoneDecidesBeforeSettling,
+            ReasonIsTrue,
+            OneReasonIsTrue,
+            ReasonTellsTheEnd,
+            CoordinatorsNotDecided,
         ],
         Rules { crashes: |step| step.decides(step.estimate), ..RIGHT },
     ),
@@ -141,7 +146,16 @@ const ROUNDS: &[World] = &[
 const MISTAKES: &[World] = &[
     world(
         "coordinator/commits-go-upward",
-        &[Termination, EarlyDecision, NoLater, CountsBySets, IdleLinesTakenOut],
+        &[
+            Termination,
+            EarlyDecision,
+            NoLater,
+            CountsBySets,
+            IdleLinesTakenOut,
+            ReasonIsTrue,
+            OneReasonIsTrue,
+            CoordinatorsNotDecided,
+        ],
         Rules {
             reach_of_crashing: |sending, crash, to| {
                 commits_reach(sending, crash, to, |sent| to <= sending.round + sent)
@@ -159,6 +173,10 @@ const MISTAKES: &[World] = &[
             SettlingRoundIsOfRun,
             SettlingRoundQualifies,
             NoneDecidesBeforeSettling,
+            ReasonIsTrue,
+            OneReasonIsTrue,
+            ReasonTellsTheEnd,
+            CoordinatorsNotDecided,
         ],
         Rules {
             receives: |step| match step.heard {
@@ -199,6 +217,8 @@ const MISTAKES: &[World] = &[
             SettlingRoundIsOfRun,
             SettlingRoundQualifies,
             NoneDecidesBeforeSettling,
+            ReasonIsTrue,
+            OneReasonIsTrue,
         ],
         Rules { crashes: right::receives, ..RIGHT },
     ),
@@ -228,7 +248,13 @@ fn above(set: u64, process: u8) -> u8 {
 const IMPOSTORS: &[World] = &[
     world(
         "round 1 is run and the rest marked decided",
-        &[Agreement, LastRoundSettles, SettlingRoundIsOfRun, SettlingRoundQualifies],
+        &[
+            Agreement,
+            LastRoundSettles,
+            SettlingRoundIsOfRun,
+            SettlingRoundQualifies,
+            ReasonTellsTheEnd,
+        ],
         Rules {
             receives: |step| match right::receives(step) {
                 State::Undecided(value) => step.decides(value),
@@ -267,7 +293,16 @@ const IMPOSTORS: &[World] = &[
     ),
     world(
         "one that hears nothing decides the coordinator's value",
-        &[Agreement, Validity, NoLater, LastRoundSettles, StaysSettled, DecisionIsSettled],
+        &[
+            Agreement,
+            Validity,
+            NoLater,
+            LastRoundSettles,
+            StaysSettled,
+            DecisionIsSettled,
+            OneReasonIsTrue,
+            CoordinatorsNotDecided,
+        ],
         Rules {
             hears: |reach, coordinator| match right::hears(reach, coordinator) {
                 Heard::Nothing => Heard::EstimateAndCommit(value_or_zero(coordinator)),
@@ -323,6 +358,7 @@ const IMPOSTORS: &[World] = &[
             SettlingRoundIsOfRun,
             SettlingRoundQualifies,
             NoneDecidesBeforeSettling,
+            OneReasonIsTrue,
         ],
         Rules { coordinator: |_, n| n, ..RIGHT },
     ),
@@ -380,6 +416,7 @@ const COUNTS: &[World] = &[
             SpeakersWithinBound,
             MessagesWithinBound,
             CommitsWithinBound,
+            CoordinatorsNotDecided,
         ],
         Rules {
             is_undecided: |state| !has_crashed(state),
@@ -400,7 +437,7 @@ const COUNTS: &[World] = &[
     ),
     world(
         "coordinator/rounds-counted-after-the-end",
-        &[CountsRounds],
+        &[CountsRounds, CoordinatorsNotDecided],
         Rules { round_counts: |_, _, _| true, ..RIGHT },
     ),
     world(
@@ -766,6 +803,214 @@ const NAMED: &[World] = &[
         },
     ),
 ];
+
+/// Other reasons, and reasons given of what is not there (02, Paper 7).
+const REASONED: &[World] = &[
+    world(
+        "coordinator/reasons-4-and-5-swapped",
+        &[ReasonIsTrue],
+        Rules { reason: |at| swapped_4_and_5(at.reason()), ..RIGHT },
+    ),
+    world(
+        "coordinator/crashing-coordinator-has-reason-1",
+        &[ReasonIsTrue, ReasonTellsTheEnd],
+        Rules {
+            reason: |at| if at.crashes() && at.coordinates() { 1 } else { at.reason() },
+            ..RIGHT
+        },
+    ),
+    world(
+        "who hears a coordinator that crashes has reason 5",
+        &[ReasonIsTrue, ReasonTellsTheEnd],
+        Rules {
+            reason: |at| match at.reason() {
+                2 | 3 if at.coordinator_crashes() => 5,
+                reason => reason,
+            },
+            ..RIGHT
+        },
+    ),
+    world(
+        "coordinator/crash-in-the-round-is-reason-7",
+        &[ReasonIsTrue, ReasonTellsTheEnd],
+        Rules { reason: |at| if at.crashes() { 7 } else { at.reason() }, ..RIGHT },
+    ),
+    world(
+        "coordinator/who-decides-has-reason-7-in-that-round",
+        &[ReasonIsTrue, ReasonTellsTheEnd],
+        Rules { reason: |at| if at.decides() { 7 } else { at.reason() }, ..RIGHT },
+    ),
+    world(
+        "coordinator/crash-in-the-round-overlooked",
+        &[ReasonIsTrue, ReasonTellsTheEnd],
+        Rules { reason: |at| Situation { states: [at.states[0]; 2], ..*at }.reason(), ..RIGHT },
+    ),
+    world(
+        "coordinator/value-and-commit-is-reason-3",
+        &[ReasonIsTrue, ReasonTellsTheEnd],
+        Rules { reason: |at| if at.reason() == 2 { 3 } else { at.reason() }, ..RIGHT },
+    ),
+    world(
+        "a coordinator that decides has reason 2",
+        &[ReasonIsTrue],
+        Rules { reason: |at| if at.reason() == 1 { 2 } else { at.reason() }, ..RIGHT },
+    ),
+    world(
+        "coordinator/silent-coordinator-taken-for-crashed-before",
+        &[ReasonIsTrue],
+        Rules { reason: |at| if at.reason() == 5 { 4 } else { at.reason() }, ..RIGHT },
+    ),
+    world(
+        "coordinator/reason-4-of-a-coordinator-crashed-as-the-round-ends",
+        &[OneReasonIsTrue],
+        Rules {
+            reason_is_true: |at, reason| {
+                let silent = at.is_true(5) && has_crashed(at.coordinator[1]);
+                at.is_true(reason) || (reason == 4 && silent)
+            },
+            ..RIGHT
+        },
+    ),
+    world(
+        "coordinator/reason-1-of-every-coordinator",
+        &[OneReasonIsTrue],
+        Rules {
+            reason_is_true: |at, reason| {
+                at.is_true(reason) || (reason == 1 && at.begins() && at.coordinates())
+            },
+            ..RIGHT
+        },
+    ),
+    world(
+        "coordinator/reasons-2-to-5-of-who-crashes-too",
+        &[OneReasonIsTrue],
+        Rules {
+            reason_is_true: |at, reason| {
+                let stays_up = Situation { states: [at.states[0]; 2], ..*at };
+                at.is_true(reason) || ((2..=5).contains(&reason) && stays_up.is_true(reason))
+            },
+            ..RIGHT
+        },
+    ),
+    world(
+        "coordinator/reason-1-of-whoever-decides",
+        &[OneReasonIsTrue],
+        Rules {
+            reason_is_true: |at, reason| at.is_true(reason) || (reason == 1 && at.decides()),
+            ..RIGHT
+        },
+    ),
+    world(
+        "coordinator/reason-7-of-who-has-ended-as-the-round-ends",
+        &[OneReasonIsTrue],
+        Rules {
+            reason_is_true: |at, reason| {
+                at.is_true(reason) || (reason == 7 && !right::is_undecided(at.states[1]))
+            },
+            ..RIGHT
+        },
+    ),
+    world(
+        "coordinator/reason-5-of-who-hears-a-crashing-coordinator",
+        &[OneReasonIsTrue],
+        Rules {
+            reason_is_true: |at, reason| {
+                let stays_up = at.begins() && !at.crashes();
+                at.is_true(reason) || (reason == 5 && stays_up && at.coordinator_crashes())
+            },
+            ..RIGHT
+        },
+    ),
+    world(
+        "coordinator/coordinators-never-crash-before",
+        &[CoordinatorsNotDecided],
+        Rules { never_before: has_crashed, ..RIGHT },
+    ),
+    world(
+        "coordinator/reason-6-of-whoever-has-crashed",
+        &[OneReasonIsTrue],
+        Rules {
+            reason_is_true: |at, reason| {
+                at.is_true(reason) || (reason == 6 && has_crashed(at.states[1]))
+            },
+            ..RIGHT
+        },
+    ),
+    world(
+        "coordinator/value-of-a-crashing-coordinator-is-reason-5",
+        &[ReasonIsTrue],
+        Rules { reason: |at| if at.reason() == 3 { 5 } else { at.reason() }, ..RIGHT },
+    ),
+    world(
+        "coordinator/clauses-4-and-5-swapped-with-the-function",
+        &[WorkedRun("case 4")],
+        Rules {
+            reason: |at| swapped_4_and_5(at.reason()),
+            reason_is_true: |at, reason| at.is_true(swapped_4_and_5(reason)),
+            ..RIGHT
+        },
+    ),
+    world(
+        "coordinator/last-round-first",
+        &[WorkedRun("case 1")],
+        Rules {
+            reasons_listed: |n, reasons| {
+                reasons.chunks(usize::from(n)).rev().flatten().copied().collect()
+            },
+            ..RIGHT
+        },
+    ),
+    world(
+        "coordinator/reasons-of-the-process-before",
+        &[WorkedRun("case 1")],
+        Rules {
+            reasons_listed: |n, mut reasons| {
+                reasons.chunks_mut(usize::from(n)).for_each(|row| row.rotate_right(1));
+                reasons
+            },
+            ..RIGHT
+        },
+    ),
+    world(
+        "reasons are given up to round t + 1",
+        &[ReasonsOfTheRun],
+        Rules {
+            reason_given: |process, round, run| {
+                (1..=run.n).contains(&process) && (1..=run.last_round()).contains(&round)
+            },
+            ..RIGHT
+        },
+    ),
+    world(
+        "a reason is given of process 0",
+        &[ReasonsOfTheRun],
+        Rules {
+            reason_given: |process, round, run| {
+                process <= run.n && (1..=run.counts.rounds).contains(&round)
+            },
+            ..RIGHT
+        },
+    ),
+    world(
+        "a reason is given of round 0",
+        &[ReasonsOfTheRun],
+        Rules {
+            reason_given: |process, round, run| {
+                (1..=run.n).contains(&process) && round <= run.counts.rounds
+            },
+            ..RIGHT
+        },
+    ),
+];
+
+/// Reason 5 for 4, and 4 for 5.
+fn swapped_4_and_5(reason: u8) -> u8 {
+    if matches!(reason, 4 | 5) {
+        9 - reason
+    } else {
+        reason
+    }
+}
 
 /// The first round in which a process decides.
 fn first_decision(run: &Run) -> Option<u8> {

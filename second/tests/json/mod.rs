@@ -1,5 +1,5 @@
 //! As much of JSON as the vectors use: objects of strings, whole numbers, lists of
-//! whole numbers, null and such objects, one object to a line.
+//! whole numbers, lists of such lists, null and such objects, one object to a line.
 
 use std::collections::BTreeMap;
 use std::iter::Peekable;
@@ -11,6 +11,7 @@ pub enum Value {
     Text(String),
     Number(u64),
     List(Vec<u64>),
+    Lists(Vec<Vec<u64>>),
     Object(Object),
     Null,
 }
@@ -54,6 +55,13 @@ impl Object {
         match &self.0[name] {
             Value::List(list) => list,
             other => panic!("{name} is no list: {other:?}"),
+        }
+    }
+
+    pub fn lists(&self, name: &str) -> &[Vec<u64>] {
+        match &self.0[name] {
+            Value::Lists(lists) => lists,
+            other => panic!("{name} is no list of lists: {other:?}"),
         }
     }
 
@@ -112,12 +120,16 @@ impl Reader<'_> {
             return Value::Object(self.members());
         }
         if self.accept('[') {
-            let mut list = Vec::new();
-            while !self.accept(']') {
-                list.push(self.number());
-                self.accept(',');
+            if !self.accept('[') {
+                return Value::List(self.numbers());
             }
-            return Value::List(list);
+            let mut lists = vec![self.numbers()];
+            while !self.accept(']') {
+                self.expect(',');
+                self.expect('[');
+                lists.push(self.numbers());
+            }
+            return Value::Lists(lists);
         }
         match self.0.peek() {
             Some('"') => Value::Text(self.string()),
@@ -127,6 +139,16 @@ impl Reader<'_> {
             }
             _ => Value::Number(self.number()),
         }
+    }
+
+    /// The numbers of a list, behind its opening bracket.
+    fn numbers(&mut self) -> Vec<u64> {
+        let mut list = Vec::new();
+        while !self.accept(']') {
+            list.push(self.number());
+            self.accept(',');
+        }
+        list
     }
 
     fn number(&mut self) -> u64 {

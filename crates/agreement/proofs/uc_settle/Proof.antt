@@ -1,6 +1,8 @@
 -- `agreement::uc_settle` meets its contract. Assumes nothing.
-use Rattle.agreement.proofs.Codes.{round-code, settle-refused-code}
+use Rattle.agreement.proofs.Codes.{number-code, refused-number-code}
+use mathlib.Core.Path.{ap}
 use borrow.Author.Needs.{needs}
+use Rattle.running.specs.Settling.{settlingOf}
 use Rattle.agreement.proofs.uc_settle.Statement.{statement}
 use Rattle.agreement.proofs.uc_settle.Tie as tie
 
@@ -20,12 +22,14 @@ refusal-code-requires : tie.Need-refusal-code-requires
 refusal-code-requires c κs = search needs
 
 returns : tie.Need-returns
-returns c = round-code _ _ (c .before .before .before .settle .ensures) _ (c .before .answer .given .1)
+unfolding settlingOf
+returns c = number-code _ _ (c .before .before .before .settle .ensures) _ (ap settlingOf (c .before .answer .given .1))
 
 returns-2 : tie.Need-returns-2
+unfolding settlingOf
 returns-2 c =
     let told = c .before .before in
-    settle-refused-code _ _ (told .before .before .settle .ensures) _ _ _ (told .answer2 .given .1) (c .refusal-code .ensures)
+    refused-number-code _ _ (told .before .before .settle .ensures) _ _ _ (ap settlingOf (told .answer2 .given .1)) (c .refusal-code .ensures)
 
 pub uc-settle-spec : {M : Type 1} → statement M
 uc-settle-spec =

@@ -10,6 +10,8 @@ use std::time::{Duration, Instant};
 use against::proved::Proved;
 use second::interface::Agreement;
 use second::report::LONGEST_RESULT;
+use second::round_reason::MOST_REASONS;
+use second::simulation::Simulation;
 use second::worked;
 use second::{Failure, Simulator, Ticket};
 
@@ -102,11 +104,13 @@ fn settled_tickets() -> Vec<(&'static str, Vec<u8>)> {
     ]
 }
 
+/// Calls per second, of each implementation.
+fn row(name: &str, [proved, second]: [f64; 2]) {
+    println!("{name:<32}{proved:>14.0}{second:>14.0}{:>8.2}", proved / second);
+}
+
 fn time_tickets(time: Duration) {
     println!("{:<32}{:>14}{:>14}{:>8}", "tickets per second", "proved", "second", "ratio");
-    let row = |name: &str, [proved, second]: [f64; 2]| {
-        println!("{name:<32}{proved:>14.0}{second:>14.0}{:>8.2}", proved / second);
-    };
     for (name, text) in tickets() {
         let mut output = [0; LONGEST_RESULT];
         let run = |module: &mut dyn Agreement| {
@@ -121,6 +125,58 @@ fn time_tickets(time: Duration) {
         };
         row(name, rates(time, settle));
     }
+}
+
+/// One reason, of the last process in the last round, and all of them, for the tickets
+/// that are run; and beside a table what as many single calls as it has reasons take.
+fn time_reasons(time: Duration) {
+    println!("one reason, per second");
+    for (name, text) in tickets() {
+        let (process, round) = last_place(&text);
+        let reason = |module: &mut dyn Agreement| {
+            black_box(module.reason(black_box(&text), process, round));
+        };
+        row(name, rates(time, reason));
+    }
+    println!("all reasons of a run, per second");
+    for (name, text) in tickets() {
+        let mut output = [0; MOST_REASONS];
+        let reasons = |module: &mut dyn Agreement| {
+            black_box(module.reasons(black_box(&text), black_box(&mut output)));
+        };
+        row(name, rates(time, reasons));
+    }
+    println!();
+    println!("{:<32}{:>14}{:>14}{:>8}", "microseconds", "table", "single calls", "ratio");
+    for (name, text) in tickets() {
+        if Ticket::parse(&text).is_ok() {
+            table_beside_single_calls(time, name, &text);
+        }
+    }
+}
+
+/// The last process and the last round of a ticket's run; 1 and 1 if it is refused.
+fn last_place(text: &[u8]) -> (u64, u64) {
+    Ticket::parse(text).map_or((1, 1), |ticket| {
+        let rounds = Simulation::new(&ticket).run(|_, _| {}).rounds;
+        (ticket.n.into(), rounds.into())
+    })
+}
+
+/// What the proved library takes for a ticket's table, and for its reasons one by one.
+fn table_beside_single_calls(time: Duration, name: &str, text: &[u8]) {
+    let (n, rounds) = last_place(text);
+    let mut output = [0; MOST_REASONS];
+    let table = per_second(time, || {
+        black_box(Proved.reasons(black_box(text), black_box(&mut output)));
+    });
+    let mut place = 0;
+    let single = per_second(time, || {
+        place = (place + 1) % (n * rounds);
+        black_box(Proved.reason(black_box(text), place % n + 1, place / n + 1));
+    });
+    let [table, single] = [1e6 / table, 1e6 / single * (n * rounds) as f64];
+    println!("{name:<32}{table:>14.2}{single:>14.2}{:>8.2}", single / table);
 }
 
 fn time_local_calls(time: Duration) {
@@ -176,13 +232,13 @@ fn main() -> ExitCode {
     }
     let time = Duration::from_secs_f64(seconds);
     time_tickets(time);
+    time_reasons(time);
     time_local_calls(time);
     println!();
     println!("The best of {TURNS} turns that both take alternately, {seconds} s in all for each.");
     println!("Compared with the second implementation, which goes message by message: a guard against a step backwards, no measure of what could be had.");
-    println!(
-        "Tickets: one output buffer of {LONGEST_RESULT} bytes, not cleared between the calls."
-    );
+    println!("Tickets: one output buffer of {LONGEST_RESULT} bytes, {MOST_REASONS} for reasons, not cleared between the calls.");
+    println!("A table beside single calls: of the proved library, as many calls as the table has reasons.");
     println!("Local calls: each with a state and an output written afresh, which is timed too.");
     ExitCode::SUCCESS
 }

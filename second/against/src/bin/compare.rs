@@ -2,7 +2,7 @@
 //!
 //! `compare [--short] [--seed NUMBER] [--count NUMBER]`: the stored tickets,
 //! everything small, every byte at every place of a ticket, every count of a process,
-//! every settling round, and then `count` random tickets with calls of start, speak
+//! every settling round, every reason of some runs, and then `count` random tickets with calls of start, speak
 //! and close. The last line says what was compared; a difference is shown by the
 //! smallest ticket that could be found, and the exit status is 1.
 
@@ -51,13 +51,14 @@ fn compare(
         let mut rng = Rng::new(seed);
         (0..count).try_for_each(|_| random::ticket_and_calls(comparison, &mut rng))
     };
-    let parts: [Part; 9] = [
+    let parts: [Part; 10] = [
         ("every stored ticket", &exhaustive::stored),
         ("every ticket of up to 4 processes", &exhaustive::tickets),
         ("every byte at every place of a ticket", &exhaustive::bytes),
         ("every output length for each n", &exhaustive::rooms),
         ("every count of every process for each n", &exhaustive::counts),
         ("every settling round for each n", &exhaustive::settling_rounds),
+        ("every reason of some runs for each n", &exhaustive::reasons),
         ("every start near the limits", &exhaustive::starts),
         ("speak and close near the limits", &exhaustive::states),
         ("random tickets and calls", &random_part),

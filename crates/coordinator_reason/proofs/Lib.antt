@@ -1,0 +1,2 @@
+pub mod ByEnds
+pub mod Rows
