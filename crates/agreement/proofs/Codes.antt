@@ -8,6 +8,7 @@ use Rattle.running.specs.Answer.{answerOf}
 use Rattle.running.specs.declared.RunAnswer.{RunAnswer}
 use Rattle.running.specs.declared.RunAnswer.the-variants.{Written, Refused}
 use Rattle.formats.specs.Code.{codeOf, refusalCode, sizeCode, numberCode}
+use Rattle.pricing_format.specs.QuoteCall.{placeAfter, QuotingCall}
 
 module _ (answer : RunAnswer) where
   pub written-code : (a : Reading (List ℕ)) (size : ℕ) → answer ≡ answerOf a → answer ≡ Written size → size ≡ sizeCode a
@@ -33,3 +34,14 @@ module _ (known a : Reading ℕ) (same : known ≡ a) where
   pub refused-number-code : (number line code : ℕ) → known ≡ refused number line → code ≡ refusalCode number line → code ≡ numberCode a
   unfolding codeOf
   refused-number-code number line code e c = rw (← same, e) c
+
+-- Of a call that quotes; `known` is what its answer is read as.
+module _ (known a : Reading ℕ) (same : known ≡ a) (before : ℕ) where
+  pub quote-call : (tells : Reading ℕ → ℕ) (pence : ℕ) → known ≡ accepted pence → 0 ≡ tells (accepted pence) → QuotingCall tells a before pence 0
+  unfolding placeAfter
+  quote-call tells pence e zero = rw (← same, e) (record { answered = zero; place = refl })
+
+  pub refused-call : (tells : Reading ℕ → ℕ) (number line code : ℕ) → known ≡ refused number line → code ≡ tells (refused number line)
+      → QuotingCall tells a before before code
+  unfolding placeAfter
+  refused-call tells number line code e told = rw (← same, e) (record { answered = told; place = refl })

@@ -8,6 +8,8 @@ ghost use Prim.Native.Nat.{_+_, _*_};
 ghost use Rattle.formats.specs.Settle.{settling};
 ghost use Rattle.formats.specs.Reason.{reason};
 ghost use Rattle.formats.specs.Code.{placedCode, RunCall, ReasonsCall, numberCode};
+ghost use Rattle.pricing_format.specs.QuoteCall.{QuoteCall, PriceCall};
+use quotes::QuoteAnswer;
 use reasons::ReasonAnswer;
 use running::RunAnswer;
 use running::SettleAnswer;
@@ -70,6 +72,36 @@ pub extern "C" fn uc_reasons(ticket: &[u8], reasons: &mut [u8]) -> u64
     match answer {
         RunAnswer::Written(count) => count as u64,
         RunAnswer::Refused(refusal, wrong_line) => refusal_code(0, refusal, wrong_line),
+    }
+}
+
+// Quotes tender lines for a process of a ticket's run: 0, and the pence in their place; or 65536 times the refusal plus its line.
+#[no_mangle]
+pub extern "C" fn uc_quote(ticket: &[u8], costs: &[u64], process: u64, quote: &mut u64) -> u64
+    ensures { λ r. ⌜ QuoteCall (now (ticket .entry)) (now (costs .entry)) process (now (quote .entry)) (now (quote .exit)) r ⌝ }
+{
+    let answer = quotes::quote_of(ticket, costs, process);
+    match answer {
+        QuoteAnswer::Quote(pence) => {
+            *quote = pence;
+            0
+        }
+        QuoteAnswer::Refused(number, line) => refusal_code(0, number, line),
+    }
+}
+
+// Quotes tender lines for a process part by its own state: 0, and the pence in their place; or refusal 10, 14, 15 or 16.
+#[no_mangle]
+pub extern "C" fn uc_price(state: &[u8], costs: &[u64], quote: &mut u64) -> u64
+    ensures { λ r. ⌜ PriceCall (now (state .entry)) (now (costs .entry)) (now (quote .entry)) (now (quote .exit)) r ⌝ }
+{
+    let answer = quotes::quote_own(state, costs);
+    match answer {
+        QuoteAnswer::Quote(price) => {
+            *quote = price;
+            0
+        }
+        QuoteAnswer::Refused(refusal, _) => refusal as u64,
     }
 }
 

@@ -35,7 +35,7 @@ rounds-claim =
 -- The bytes of a result say one thing: what the rounds give.
 module _ (text : List ℕ) (x : Instance) (out : List ℕ) (ends : ℕ → State) (counts : Counts)
     (wrote : Wrote text x out) (says : OutputSays x out ends counts) where
-  ends-said : SameEnds x (endOf x) ends
+  pub ends-said : SameEnds x (endOf x) ends
   unfolding SameEnds
   ends-said p process =
       let run = demand-2 .result text x out wrote .states p process in

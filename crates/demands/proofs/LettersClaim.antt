@@ -25,38 +25,56 @@ use Rattle.reasons.specs.Answer.{reasonOfAnswer}
 use Rattle.reasons.specs.declared.ReasonAnswer.{ReasonAnswer}
 use Rattle.running.specs.Settling.{settlingOf}
 use Rattle.running.specs.declared.SettleAnswer.{SettleAnswer}
-use Rattle.running.specs.declared.SettleAnswer.the-variants.{Round, Refused}
+use Rattle.pricing_format.specs.Quoting.{quoting}
+use Rattle.pricing_format.specs.QuoteCall.{placeAfter, quoteCode}
+use Rattle.quotes.specs.Answer.{quoteOfAnswer}
+use Rattle.quotes.specs.declared.QuoteAnswer.{QuoteAnswer}
 use Rattle.demands.specs.Written.{Wrote}
 use Rattle.demands.specs.Witnesses.{RunMet}
-use Rattle.demands.specs.LettersClaim.{RunAlike, SettledAlike, ExplainedAlike, LettersClaim}
+use Rattle.demands.specs.LettersClaim.{RunAlike, SettledAlike, ExplainedAlike, QuotedAlike, LettersClaim}
 use Rattle.demands.proofs.Answered.{RunCase, fits, short, unread, run-case}
 use Rattle.demands.proofs.ResultInCapitals.{text-in-capitals}
 
--- Answers of settling that say the same are the same.
-pub same-answer : (answer answer′ : SettleAnswer) → settlingOf answer ≡ settlingOf answer′ → answer ≡ answer′
-unfolding settlingOf
-same-answer (Round r) (Round s) e =
-    let same : r ≡ s = cc in
-    rw same refl
-same-answer (Round r) (Refused number line) e = cc
-same-answer (Refused number line) (Round s) e = cc
-same-answer (Refused number line) (Refused number′ line′) e =
-    let same : number ≡ number′ = cc in
-    let place : line ≡ line′ = cc in
-    rw (same, place) refl
+-- Two answers are the same that are read alike, where an answer is known by what it is read as.
+known-alike : {A B : Type 0} (reads : A → B) (back : B → A) → ((a : A) → back (reads a) ≡ a) → (a b : A) → reads a ≡ reads b → a ≡ b
+known-alike reads back known a b e = sym (known a) ∙ ap back e ∙ known b
 
--- So are those for a reason.
+-- So it is with an answer of settling, one for a reason and one for a quote.
+settle-answer : Reading ℕ → SettleAnswer
+settle-answer (accepted r) = SettleAnswer.Round r
+settle-answer (refused number line) = SettleAnswer.Refused number line
+
+pub same-answer : (answer answer′ : SettleAnswer) → settlingOf answer ≡ settlingOf answer′ → answer ≡ answer′
+unfolding settlingOf settle-answer
+same-answer = known-alike settlingOf settle-answer known
+  where
+    known : (answer : SettleAnswer) → settle-answer (settlingOf answer) ≡ answer
+    known (SettleAnswer.Round r) = refl
+    known (SettleAnswer.Refused number line) = refl
+
+reason-answer : Reading ℕ → ReasonAnswer
+reason-answer (accepted k) = ReasonAnswer.Reason k
+reason-answer (refused number line) = ReasonAnswer.Refused number line
+
 pub same-reason : (answer answer′ : ReasonAnswer) → reasonOfAnswer answer ≡ reasonOfAnswer answer′ → answer ≡ answer′
-unfolding reasonOfAnswer
-same-reason (ReasonAnswer.Reason j) (ReasonAnswer.Reason k) e =
-    let same : j ≡ k = cc in
-    rw same refl
-same-reason (ReasonAnswer.Reason j) (ReasonAnswer.Refused number line) e = cc
-same-reason (ReasonAnswer.Refused number line) (ReasonAnswer.Reason k) e = cc
-same-reason (ReasonAnswer.Refused number line) (ReasonAnswer.Refused number′ line′) e =
-    let same : number ≡ number′ = cc in
-    let place : line ≡ line′ = cc in
-    rw (same, place) refl
+unfolding reasonOfAnswer reason-answer
+same-reason = known-alike reasonOfAnswer reason-answer known
+  where
+    known : (answer : ReasonAnswer) → reason-answer (reasonOfAnswer answer) ≡ answer
+    known (ReasonAnswer.Reason k) = refl
+    known (ReasonAnswer.Refused number line) = refl
+
+quote-answer : Reading ℕ → QuoteAnswer
+quote-answer (accepted pence) = QuoteAnswer.Quote pence
+quote-answer (refused number line) = QuoteAnswer.Refused number line
+
+same-quote : (answer answer′ : QuoteAnswer) → quoteOfAnswer answer ≡ quoteOfAnswer answer′ → answer ≡ answer′
+unfolding quoteOfAnswer quote-answer
+same-quote = known-alike quoteOfAnswer quote-answer known
+  where
+    known : (answer : QuoteAnswer) → quote-answer (quoteOfAnswer answer) ≡ answer
+    known (QuoteAnswer.Quote pence) = refl
+    known (QuoteAnswer.Refused number line) = refl
 
 -- What is made of two things that are the same.
 made-alike : {A B : Type 0} (made : B → A) (s t : B) → s ≡ t → (u v : A) → u ≡ made s → v ≡ made t → u ≡ v
@@ -141,6 +159,21 @@ module _ (a b : List ℕ) (same : EqualUpToCase a b) where
         allCalled = called-alike (reasons a) (reasons b) reasons-alike;
       }
 
+  quoting-alike : (costs : List ℕ) (p : ℕ) → quoting a costs p ≡ quoting b costs p
+  unfolding quoting
+  quoting-alike costs p = rw alike refl
+
+  quoted-alike : QuotedAlike a b
+  quoted-alike =
+      record {
+        given = λ costs p answer answer′ e g. same-quote answer answer′ (e ∙ quoting-alike costs p ∙ sym g);
+        called = λ costs p before after after′ code code′ r s.
+            let same-quotes = quoting-alike costs p in (
+              made-alike quoteCode _ _ same-quotes _ _ (r .answered) (s .answered),
+              made-alike (λ (m : Reading ℕ). placeAfter m before) _ _ same-quotes _ _ (r .place) (s .place),
+            );
+      }
+
 result-in-capitals : (text : List ℕ) (x : Instance) (out : List ℕ) → Wrote text x out → InCapitals (take (resultSize (x .processes)) out)
 result-in-capitals text x out wrote =
     let size = length-text x (accepted-well-formed text x (wrote .read)) in
@@ -165,6 +198,7 @@ letters-claim =
       run = run-alike;
       settle = settled-alike;
       explain = explained-alike;
+      quote = quoted-alike;
       result = result-in-capitals;
       written = written-in-capitals;
     }

@@ -1,7 +1,7 @@
 -- The premises of the claims are met by case 1: computed from its text and those that it is paired with. Assumes nothing.
 use mathlib.Core.List.{List, [], _∷_, map}
 use mathlib.Core.Option.{none}
-use mathlib.Core.Path.{_≡_, refl}
+use mathlib.Core.Path.{_≡_, refl, sym, ap, _∙_}
 use mathlib.Core.Bool.{true}
 use Prim.Native.Nat.{ℕ, zero, suc, _-_, _<_}
 use native.Mathlib.Omega.{arith}
@@ -36,7 +36,7 @@ use Rattle.formats.specs.Line.{scan, closed, unclosed, linesFrom, linesOf}
 use Rattle.formats.specs.FailureLine.{placesCrash, allBetween, suitsStep}
 use Rattle.formats.specs.Says.{isKind, headerSays, afterProposal, proposalSays, failureLine, crashSays, failureSays, lineSays}
 use Rattle.formats.specs.Accept.{unproposed, withProposal, withCrash, begin, store, accept}
-use Rattle.formats.specs.Reading.{accepted, proceed, readFrom}
+use Rattle.formats.specs.Reading.{accepted, refused, proceed, readFrom}
 use Rattle.formats.specs.Ticket.{atEnd, readTicket}
 use Rattle.formats.specs.HexText.{digitOf, hexDigits, hexLine}
 use Rattle.formats.specs.ResultLine.{endBytes, processLine, lastLine, joined, lineBy, processLines, resultLines, resultText, resultSize}
@@ -52,9 +52,15 @@ use Rattle.reasons.specs.Answer.{reasonOfAnswer}
 use Rattle.demands.specs.OutputSays.{isProcessLine, sentIn, sentFrom, lineAt, sentSaid, countsOf}
 use Rattle.demands.specs.Written.{Wrote}
 use Rattle.demands.specs.PairedTexts.{CommitLine, PairedTexts, noLines, sameLine, countNoLower, missingLine}
-use Rattle.demands.specs.Witnesses.{crashText, mixedText, moreCommitsText, noCrashText, laterText, silentText, PairMet, RunMet, SentMet, SettledMet, ReasonMet, CrashMet, ReasonsMet, sentAs, Witnesses}
+use Rattle.pricing.specs.Price.{overheadOf, markupOf, nearest, withRate, linePrice, priceOf}
+use Rattle.pricing.specs.Quote.{anyAbove, linesRefusal, quoteBy}
+use Rattle.pricing_format.specs.Quoting.{quotedOr16, ofLines, quoteIn, quoting}
+use Rattle.pricing_format.specs.QuoteCall.{placeAfter, refusalNumber, QuoteCall}
+use Rattle.quotes.specs.Answer.{quoteOfAnswer}
+use Rattle.demands.proofs.QuoteClaim.{quote-claim}
+use Rattle.demands.specs.Witnesses.{crashText, mixedText, moreCommitsText, noCrashText, laterText, silentText, PairMet, RunMet, SentMet, SettledMet, ReasonMet, CrashMet, ReasonsMet, QuoteMet, sentAs, Witnesses}
 use Rattle.demands.proofs.Demand2.{demand-2}
-use Rattle.demands.proofs.LettersClaim.{run-met-alike}
+use Rattle.demands.proofs.LettersClaim.{run-met-alike, letters-claim}
 
 -- Case 1's instance, but for process 1's fault.
 abbrev instanceWith : Fault → Instance
@@ -251,6 +257,46 @@ all-explained =
       small = omega arith;
     }
 
+-- What processes of case 1 quote.
+abbrev oneLine : List ℕ
+oneLine = 100000 ∷ []
+
+crash-quotes : (quoting crashText oneLine 2 ≡ accepted 100100) × (quoting crashText oneLine 4 ≡ accepted 100100) × (quoting crashText oneLine 1 ≡ refused 16 0)
+unfolding quoting quoteIn ofLines quotedOr16 linesRefusal anyAbove quoteBy overheadOf markupOf nearest withRate linePrice priceOf four endOf member mapFrom faultOf arriving getsData getsCommit sends receives amongFirst reachAt reachIn reach stateOf crashesIn sentBy received afterOutcome after statesAfter isUndecided anyUndecided speaks carries carriedIn dataIn commitsIn initial withRound runTo runOf
+crash-quotes = (rw (texts-read .0) refl, rw (texts-read .0) refl, rw (texts-read .0) refl)
+
+quote-met : (p : ℕ) → IsProcess crash p → quoting crashText oneLine p ≡ accepted 100100 → QuoteMet crashText oneLine p 100100
+unfolding quoteOfAnswer codeOf placeAfter refusalNumber
+quote-met p process quoted =
+    let own = quote-claim .own crashText crash oneLine p (texts-read .0) process ∙ quoted in
+    record {
+      instance = crash;
+      read = texts-read .0;
+      process = process;
+      answered = sym quoted;
+      called = record { answered = rw quoted refl; place = rw quoted refl };
+      own = record { answered = rw own refl; place = rw own refl };
+    }
+
+second : IsProcess crash 2
+unfolding four
+second = record { first = omega arith; last = omega arith }
+
+fourth : IsProcess crash 4
+unfolding four
+fourth = record { first = omega arith; last = omega arith }
+
+quoted-mixed : QuoteCall mixedText oneLine 2 7 100100 0
+unfolding codeOf placeAfter quoting crashText mixedText
+quoted-mixed =
+    let alike = letters-claim .read crashText mixedText (lettering-cases .acceptedTexts .same) in
+    let same : quoting mixedText oneLine 2 ≡ accepted 100100 = ap (quoteIn oneLine 2) (sym alike) ∙ crash-quotes .0 in
+    record { answered = rw same refl; place = rw same refl }
+
+not-quoted : QuoteCall crashText oneLine 1 7 7 (refusalCode 16 0)
+unfolding codeOf placeAfter
+not-quoted = record { answered = rw (crash-quotes .2) refl; place = rw (crash-quotes .2) refl }
+
 -- 100 bytes are one too few, and 101 just enough.
 short : RunCall crashText (replicate 100 165) (replicate 100 165) (refusalCode 9 0)
 unfolding answerOf codeOf running resultIn bufferAfter resultText resultLines joined lineBy processLines lastLine processLine endBytes resultSize hexLine hexDigits digitOf crashText moreCommitsText noCrashText opening textOf ascii member number numberFrom bytesOf mapFrom countFrom countOf addAt pointFrom faultOf withinLimits arriving getsData getsCommit sends receives amongFirst reachAt reachIn reach stateOf crashesIn sentBy received afterOutcome after statesAfter isUndecided anyUndecided speaks carries carriedIn dataIn commitsIn isIdle countsAsCrash crashCount initial withRound runTo runOf sentAfter dataBy commitsBy crashesOf digitValue isDigit scan closed unclosed linesFrom linesOf proceed readFrom isKind headerSays afterProposal proposalSays failureLine placesCrash allBetween suitsStep crashSays failureSays lineSays unproposed withProposal withCrash begin store accept atEnd readTicket
@@ -274,6 +320,10 @@ witnesses =
       explainedSilent = explained-silent;
       crashes = crash-met;
       allExplained = all-explained;
+      quoted = quote-met 2 second (crash-quotes .0);
+      quotedEarlier = quote-met 4 fourth (crash-quotes .1);
+      quotedMixed = quoted-mixed;
+      notQuoted = not-quoted;
       short = short;
       fits = fits;
     }

@@ -19,6 +19,10 @@ use Rattle.running.specs.declared.RunAnswer.{RunAnswer}
 use Rattle.running.specs.declared.SettleAnswer.{SettleAnswer}
 use Rattle.reasons.specs.Answer.{reasonOfAnswer, Explained}
 use Rattle.reasons.specs.declared.ReasonAnswer.{ReasonAnswer}
+use Rattle.pricing_format.specs.Quoting.{quoting}
+use Rattle.pricing_format.specs.QuoteCall.{QuoteCall}
+use Rattle.quotes.specs.Answer.{quoteOfAnswer}
+use Rattle.quotes.specs.declared.QuoteAnswer.{QuoteAnswer}
 use Rattle.demands.specs.Written.{Wrote}
 
 -- Of running: equal buffers get equal answers, a refusal's number and line included, and are left with equal bytes; by the library's own contract, by the C
@@ -41,6 +45,13 @@ pub record ExplainedAlike (a b : List ℕ) : Type 0 where
       → (answer ≡ answer′) × (out ≡ out′)
   pub allCalled : (before out out′ : List ℕ) (code code′ : ℕ) → ReasonsCall a before out code → ReasonsCall b before out′ code′ → (code ≡ code′) × (out ≡ out′)
 
+-- Of quotes (Paper 9): equal answers, and equal pence in places that held the same; by the library's own contract and by the C call's.
+pub record QuotedAlike (a b : List ℕ) : Type 0 where
+  pub given : (costs : List ℕ) (p : ℕ) (answer answer′ : QuoteAnswer) → quoteOfAnswer answer ≡ quoting a costs p → quoteOfAnswer answer′ ≡ quoting b costs p
+      → answer ≡ answer′
+  pub called : (costs : List ℕ) (p before after after′ code code′ : ℕ) → QuoteCall a costs p before after code → QuoteCall b costs p before after′ code′
+      → (code ≡ code′) × (after ≡ after′)
+
 pub record LettersClaim : Type 0 where
   -- every text is read as its capitals are: one instance, or one refusal with its number and its line
   pub capitals : (text : List ℕ) → readTicket (map capital text) ≡ readTicket text
@@ -49,6 +60,7 @@ pub record LettersClaim : Type 0 where
   pub run : (a b : List ℕ) → EqualUpToCase a b → RunAlike a b
   pub settle : (a b : List ℕ) → EqualUpToCase a b → SettledAlike a b
   pub explain : (a b : List ℕ) → EqualUpToCase a b → ExplainedAlike a b
+  pub quote : (a b : List ℕ) → EqualUpToCase a b → QuotedAlike a b
   -- a result that stands in a buffer has no small letter, nor has anything that the program writes
   pub result : (text : List ℕ) (x : Instance) (out : List ℕ) → Wrote text x out → InCapitals (take (resultSize (x .processes)) out)
   pub written : (text : List ℕ) → InCapitals (programWrites text)

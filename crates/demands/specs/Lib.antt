@@ -11,5 +11,6 @@ pub mod RoomClaim
 pub mod IdleClaim
 pub mod SettlingClaim
 pub mod ReasonClaim
+pub mod QuoteClaim
 pub mod LettersClaim
 pub mod Witnesses

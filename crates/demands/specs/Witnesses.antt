@@ -1,7 +1,8 @@
 -- The premises of the claims can be met: case 1 (document 01, 'Worked runs') is run, as it stands, in mixed letters and into a buffer that is too short, and
 -- paired with case 3 and with itself without its failure line; its lines say what counts of each process. (What else is answered on case 1 in mixed letters,
 -- and on refused texts in two letterings: formats/specs/LetteringCases.) Settling case 1 names a round below the run's last, and settling the further run
--- `crashesLater` one that is neither the first nor the last. Reasons are given in cases 1 and 6, and all of case 1 are written.
+-- `crashesLater` one that is neither the first nor the last. Reasons are given in cases 1 and 6, and all of case 1 are written. Two processes of case 1 quote, and
+-- one that crashes does not.
 use mathlib.Core.List.{List, [], _∷_, _++_, map}
 use mathlib.Core.Option.{Option, some, none}
 use mathlib.Core.Path.{_≡_}
@@ -26,6 +27,12 @@ use Rattle.running.specs.Settling.{settlingOf}
 use Rattle.running.specs.declared.SettleAnswer.the-variants.{Round}
 use Rattle.reasons.specs.Answer.{reasonOfAnswer, Explained}
 use Rattle.reasons.specs.declared.ReasonAnswer.the-variants.{Reason}
+use Rattle.part_host.specs.Part.{bytesKept}
+use Rattle.part_host.specs.Host.{endPartOf}
+use Rattle.pricing_format.specs.Quoting.{quoting}
+use Rattle.pricing_format.specs.QuoteCall.{QuoteCall, PriceCall}
+use Rattle.quotes.specs.Answer.{quoteOfAnswer}
+use Rattle.quotes.specs.declared.QuoteAnswer.the-variants.{Quote}
 use Rattle.demands.specs.OutputSays.{Sent, Counts, sentSaid, sentOf}
 use Rattle.demands.specs.Written.{Wrote, CallWrote}
 use Rattle.demands.specs.SenderClaim.{MessagesSaid}
@@ -113,6 +120,16 @@ pub record ReasonsMet (text before after : List ℕ) (size : ℕ) : Type 0 where
   pub called : ReasonsCall text before after size
   pub small : size < refusalsFrom
 
+-- A text is accepted, and its process p quotes so many pence for these costs: by the library, by the C call, which finds 7 in the place, and by the nine bytes of
+-- its own part.
+pub record QuoteMet (text costs : List ℕ) (p pence : ℕ) : Type 0 where
+  pub instance : Instance
+  pub read : readTicket text ≡ accepted instance
+  pub process : IsProcess instance p
+  pub answered : quoteOfAnswer (Quote pence) ≡ quoting text costs p
+  pub called : QuoteCall text costs p 7 pence 0
+  pub own : PriceCall (bytesKept (endPartOf instance p)) costs 7 pence 0
+
 abbrev pub sentAs : (dataSent commitsSent : ℕ) → Option Sent
 sentAs dataSent commitsSent = some (record { dataSent = dataSent; commitsSent = commitsSent })
 
@@ -133,6 +150,11 @@ pub record Witnesses : Type 0 where
   pub crashes : CrashMet crashText 1 1 2
   -- the eight reasons, and behind them what stood there
   pub allExplained : ReasonsMet crashText (replicate 9 165) (6 ∷ 3 ∷ 3 ∷ 2 ∷ 7 ∷ 1 ∷ 2 ∷ 7 ∷ 165 ∷ []) 8
+  -- processes 2 and 4, which decide in rounds 2 and 1, quote 100,100 for 100,000; so does process 2 in mixed letters, and process 1 crashes
+  pub quoted : QuoteMet crashText (100000 ∷ []) 2 100100
+  pub quotedEarlier : QuoteMet crashText (100000 ∷ []) 4 100100
+  pub quotedMixed : QuoteCall mixedText (100000 ∷ []) 2 7 100100 0
+  pub notQuoted : QuoteCall crashText (100000 ∷ []) 1 7 7 (refusalCode 16 0)
   -- a buffer of 100 bytes is too short for it, and one of 101 is not
   pub short : RunCall crashText (replicate 100 165) (replicate 100 165) (refusalCode 9 0)
   pub fits : RunCall crashText (replicate 101 165) (textOf (case1 .output)) 101

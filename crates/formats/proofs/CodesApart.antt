@@ -32,11 +32,11 @@ refusal-told place number line some few short = record { isRefusal = omega arith
 
 -- An answer is read off its code, whatever the call: where it accepts, and where it refuses.
 module _ {A : Type 0} (value : A → ℕ) (least most : ℕ) (numbers : ℕ → Type 0) where
-  accepted-read : most < refusalsFrom → (a : A) → Within least most (value a) → ReadOff value least most numbers (accepted a)
+  pub accepted-read : most < refusalsFrom → (a : A) → Within least most (value a) → ReadOff value least most numbers (accepted a)
   unfolding codeOf
   accepted-read small a h = record { isAccepted = λ _. (a, refl, refl, h); isRefused = λ large. absurd (omega (arith, h .1)) }
 
-  refused-read : (number line : ℕ) → 1 ≤ number → number < refusalsFrom → line < refusalsFrom → numbers number
+  pub refused-read : (number line : ℕ) → 1 ≤ number → number < refusalsFrom → line < refusalsFrom → numbers number
       → ReadOff value least most numbers (refused number line)
   unfolding codeOf
   refused-read number line some few short h =

@@ -10,7 +10,7 @@ use Rattle.coordinator.specs.Message.{Messages, nothing, estimate, estimateAndC
 use Rattle.coordinator.specs.Transition.{continues, decides, receives}
 use Rattle.part_format.specs.PartState.{PartState, stateBytes, stateFrom, isOwnRound}
 use Rattle.part_format.specs.Close.{stateAfter, closedOn}
-use Rattle.part.proofs.Bytes.{value-from}
+use Rattle.part_format.proofs.Bytes.{value-from}
 
 -- The process, n and t of a state, with another round, mark and value.
 abbrev pub withMark : List ℕ → (round mark v : ℕ) → PartState

@@ -1,4 +1,3 @@
 -- Laws of the definitions, one for each way that a function ends, which the functions' proofs cite.
-pub mod Bytes
 pub mod Closed
 pub mod Operations

@@ -15,7 +15,7 @@ use Rattle.part_format.specs.Start.{startRefusal, startBytes}
 use Rattle.part_format.specs.Frame.{framesOf}
 use Rattle.part_format.specs.Speak.{spokenBy, speakRefusal, speakYields, speakAnswer, speakOutput}
 use Rattle.part_format.proofs.Operations.{length-frames}
-use Rattle.part.proofs.Bytes.{value-from}
+use Rattle.part_format.proofs.Bytes.{value-from}
 
 -- What starting answers and leaves where it is refused.
 module _ (p n t v : ℕ) (lent : List ℕ) where

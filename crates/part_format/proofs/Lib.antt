@@ -7,6 +7,7 @@ pub mod Operations
 pub mod Room
 pub mod Carried
 pub mod RoundTrip
+pub mod Bytes
 pub mod ValidBytes
 pub mod StaysValid
 pub mod Leaves

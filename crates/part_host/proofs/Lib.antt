@@ -5,3 +5,4 @@ pub mod Alike
 pub mod DecideAlike
 pub mod Example
 pub mod PartsConsensus
+pub mod Kept

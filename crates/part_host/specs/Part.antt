@@ -16,6 +16,11 @@ pub data Part : Type 0 where
 unfoldable pub partOf : List Part → ℕ → Part
 partOf parts p = getD parts (p - 1) (crashedIn 0 [])
 
+-- The nine bytes that its host keeps of it.
+unfoldable pub bytesKept : Part → List ℕ
+bytesKept (up b) = b
+bytesKept (crashedIn round b) = b
+
 -- Whether nine bytes are those of a process that is up and undecided: mark 00.
 unfoldable pub isOpen : List ℕ → Bool
 isOpen b = eqb (stateFrom b .mark) markOpen

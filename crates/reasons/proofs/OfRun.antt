@@ -24,7 +24,7 @@ use Rattle.tables.specs.declared.InstanceTable.{InstanceTable}
 use Rattle.tables.specs.declared.RunTable.{RunTable}
 use Rattle.tables.specs.InstanceOfTable.{faultFrom, instanceOf}
 use Rattle.tables.specs.RunOfTable.{stateByEnd, runOver}
-use Rattle.tables.proofs.Places.{fault-at, state-over}
+use Rattle.tables.proofs.Places.{fault-at, end-in-table}
 use Rattle.coordinator_run.proofs.TableLimits.{rounds-fit}
 use Rattle.coordinator_reason.specs.ByEnds.{dataReaches, reasonWaiting, reasonEnding, reasonByEnd, rowByEnds, rowsByEnds}
 use Rattle.coordinator_reason.proofs.ByEnds.{by-end-before, by-end-later, by-end-now, data-leaves}
@@ -62,10 +62,7 @@ module _ (table : InstanceTable) (run : RunTable) (done : Finished table run) wh
 
   end-by-table : (p : ℕ) → 1 ≤ p → p ≤ table .n
       → endOf x p ≡ stateByEnd (getD (run .ends) (p - 1) 0) (getD (run .«end_rounds») (p - 1) 0) (getD (run .values) (p - 1) 0)
-  unfolding endOf runOver
-  end-by-table p one last =
-      sym (ap (λ (known : Run). stateOf (known .states) p) (done .whole))
-      ∙ state-over (table .n) (run .ends) (run .«end_rounds») (run .values) (done .entries) p one last
+  end-by-table p one last = end-in-table x (table .n) run (done .entries) (done .whole) p one last
 
   ends-so : (p : ℕ) → IsProcess x p → p ≤ table .n → EndsSo (getD (run .ends) (p - 1) 0) (getD (run .«end_rounds») (p - 1) 0) (endOf x p)
   unfolding stateByEnd

@@ -1,17 +1,19 @@
 -- What a table says of one process, and of how many. Assumes nothing.
 use mathlib.Core.List.{List}
-use mathlib.Core.Path.{_≡_, refl, ap, _∙_}
+use mathlib.Core.Path.{_≡_, refl, sym, ap, _∙_}
 use Prim.Native.Nat.{ℕ, _-_, _≤_}
 use native.Mathlib.Omega.{arith}
 use lib.ListN.{length, getD, take, length-take}
 use lib.Seq.{getD-take}
 use Rattle.general.specs.Indexed.{mapFrom}
 use Rattle.general.proofs.Indexed.{length-mapFrom, mapFrom-at}
-use Rattle.consensus.specs.Instance.{correct, faultOf}
+use Rattle.consensus.specs.Instance.{Instance, correct, faultOf}
 use Rattle.consensus.specs.State.{crashed, stateOf}
+use Rattle.coordinator.specs.Run.{Run, runOf, endOf}
 use Rattle.tables.specs.declared.InstanceTable.{InstanceTable}
+use Rattle.tables.specs.declared.RunTable.{RunTable}
 use Rattle.tables.specs.InstanceOfTable.{faultFrom, faultIn, instanceOf}
-use Rattle.tables.specs.RunOfTable.{stateByEnd, stateOver, statesOver}
+use Rattle.tables.specs.RunOfTable.{stateByEnd, stateOver, statesOver, runOver, runFrom}
 
 -- How many processes a table has, and how many may crash.
 pub processes-of : (x : InstanceTable) → instanceOf x .processes ≡ x .n
@@ -54,3 +56,10 @@ module _ (n : ℕ) (ends endRounds values : List ℕ) (fits : n ≤ length ends)
       → stateOf (statesOver n ends endRounds values) p ≡ stateByEnd (getD ends (p - 1) 0) (getD endRounds (p - 1) 0) (getD values (p - 1) 0)
   unfolding stateOf statesOver stateOver
   state-over p h g = at-process (stateOver endRounds values) n ends fits p (crashed 0) h g
+
+-- How process p ends in the whole run that a table stands for.
+pub end-in-table : (x : Instance) (n : ℕ) (run : RunTable) → n ≤ length (run .ends) → runFrom n run ≡ runOf x → (p : ℕ) → 1 ≤ p → p ≤ n
+    → endOf x p ≡ stateByEnd (getD (run .ends) (p - 1) 0) (getD (run .«end_rounds») (p - 1) 0) (getD (run .values) (p - 1) 0)
+unfolding endOf runOver
+end-in-table x n run fits whole p h g =
+    sym (ap (λ (known : Run). stateOf (known .states) p) whole) ∙ state-over n (run .ends) (run .«end_rounds») (run .values) fits p h g

@@ -1,0 +1,43 @@
+-- `agreement::uc_price` meets its contract. Assumes nothing.
+use Rattle.agreement.proofs.Codes.{quote-call, refused-call}
+use mathlib.Core.Path.{refl, ap}
+use borrow.Author.Needs.{needs}
+use Rattle.pricing_format.specs.QuoteCall.{refusalNumber}
+use Rattle.quotes.specs.Answer.{quoteOfAnswer}
+use Rattle.agreement.proofs.uc_price.Statement.{statement}
+use Rattle.agreement.proofs.uc_price.Tie as tie
+
+quote-own-requires : tie.Need-quote-own-requires
+quote-own-requires c κs = search needs
+
+enum-known-answer : tie.Need-enum-known-answer
+enum-known-answer c = search needs
+
+enum-known-answer-2 : tie.Need-enum-known-answer-2
+enum-known-answer-2 c = search needs
+
+cast-result : tie.Need-cast-result
+cast-result c = search needs
+
+returns : tie.Need-returns
+unfolding quoteOfAnswer refusalNumber
+returns c =
+    let told = c .before in
+    quote-call _ _ (told .before .before .quote-own .ensures) _ _ _ (ap quoteOfAnswer (told .answer .given .1)) refl
+
+returns-2 : tie.Need-returns-2
+unfolding quoteOfAnswer refusalNumber
+returns-2 c =
+    let told = c .before in
+    refused-call _ _ (told .before .before .quote-own .ensures) _ _ _ _ _ (ap quoteOfAnswer (told .answer2 .given .1)) refl
+
+pub uc-price-spec : {M : Type 1} → statement M
+uc-price-spec =
+    tie.close
+    (tie.spec
+    quote-own-requires
+    enum-known-answer
+    enum-known-answer-2
+    cast-result
+    returns
+    returns-2)

@@ -1,0 +1,1 @@
+// Prices by a rate set (document 02, Paper 9).

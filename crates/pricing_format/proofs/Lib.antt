@@ -1,0 +1,3 @@
+pub mod QuoteCases
+pub mod OwnCases
+pub mod QuotesApart
