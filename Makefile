@@ -3,11 +3,13 @@
 # make explain TICKET=FILE    what it is answered, in words: the run round by round, what each process heard and why it stands where it
 #                             does, or why the ticket is refused. PROCESS=P and ROUND=R: of that process, and of that round, alone
 # make picture TICKET=FILE    the same as a picture, in target/pictures/ or PICTURE=FILE
+# make quote TICKET=FILE COSTS=FILE
+#                             what each process quotes for a tender: COSTS has the direct cost of each tender line, in pence, on a line by itself
 # make test                   everything from nothing: proofs, must-fail edits, programs, and the evidence beyond the proofs
 # make vectors                compute the definitions on every vector of tests/vectors/
 # make vectors-part           the same on a part that has every kind of vector
 # make library-test           the compiled library on every vector of tests/vectors/
-# make host-test              simulate and examples/host on every ticket of tests/vectors/, examples/frames on those of Papers 2 and 4, examples/report on those of Paper 6, examples/reasons on those of Paper 7, and what cannot be read or written
+# make host-test              simulate and examples/host on every ticket of tests/vectors/, examples/frames on those of Papers 2 and 4, examples/report on those of Paper 6, examples/reasons on those of Paper 7, examples/quote on those of Paper 9, and what cannot be read or written
 # make interface-test         the header's prototypes against the library's, and docs/FORMATS.md against the header
 # make show-test              explain and picture on every ticket of tests/vectors/, the settling round and the reasons as the library answers them
 # make second-test            the second implementation's own tests
@@ -36,10 +38,10 @@ VERSION = $(shell sed -n 's/^.define UC_VERSION "\(.*\)"/\1/p' include/agreement
 COVERAGE_FLAGS = -Cpasses=sancov-module -Cllvm-args=-sanitizer-coverage-level=3 -Cllvm-args=-sanitizer-coverage-inline-8bit-counters \
   -Cllvm-args=-sanitizer-coverage-pc-table -Cllvm-args=-sanitizer-coverage-trace-compares
 
-.PHONY: all help prove ticket-named simulate-built show-built run explain picture test vectors vectors-part unused second-test wrong-worlds library-test host-test \
+.PHONY: all help prove ticket-named simulate-built show-built run explain picture quote test vectors vectors-part unused second-test wrong-worlds library-test host-test \
   interface-test show-test compare compare-short bench fuzz pictures install
 
-EXAMPLES = host frames report reasons
+EXAMPLES = host frames report reasons quote
 
 all: prove $(LIBRARY) $(EXAMPLES:%=target/bin/%)
 
@@ -71,6 +73,11 @@ explain: show-built
 picture: show-built
 	@mkdir -p target/pictures
 	@picture=$${PICTURE:-target/pictures/$$(basename -- "$$TICKET" .ticket).svg} && tools/draw-run -- "$$TICKET" "$$picture" && echo "$$picture"
+
+quote: ticket-named
+	@test -n "$$COSTS" || { echo 'make: which direct costs? COSTS=FILE' >&2; exit 2; }
+	@$(MAKE) -s target/bin/quote >&2
+	@target/bin/quote "$$TICKET" "$$COSTS"
 
 target/bin/simulate: $(SOURCES)
 	rt check simulate

@@ -4,11 +4,12 @@
  *
  *   run TICKET OUTPUT    settle TICKET    reason PROCESS ROUND TICKET    reasons TICKET OUTPUT
  *   start PROCESS N T VALUE STATE    speak STATE OUTPUT    close STATE HEARD
+ *   quote PROCESS TICKET COSTS QUOTE    price STATE COSTS QUOTE
  *   each N TICKET OUTPUT    a call of reason for each byte of OUTPUT, which it is put into: N processes to a round
  *
- * Bytes are in digits, `-` for none; numbers are decimal. The answer is the refusal, its line (0 for the process part),
- * what was answered, and then the bytes that were lent, in the order of the request. Each is lent between guards: a call
- * that touches those ends the program with status 3.
+ * Bytes are in hexadecimal digits, `-` for none; numbers are decimal, but those that are lent, COSTS and QUOTE, are in 16
+ * hexadecimal digits each. The answer is the refusal, its line (0 for the process part), what was answered, and then what was
+ * lent, in the order of the request. Each is lent between guards: a call that touches those ends the program with status 3.
  */
 #include <inttypes.h>
 #include <stdio.h>
@@ -17,11 +18,15 @@
 
 #include "agreement.h"
 
-enum { GUARD = 64, GUARD_BYTE = 0x5A, LONGEST = 16384, LENT_AT_MOST = 2 };
+enum { GUARD = 64, GUARD_BYTE = 0x5A, LONGEST = 528000, LENT_AT_MOST = 3 };
 
+/* Bytes or numbers between guards: how many there are, and how many bytes each has. */
 struct lent {
-    uint8_t block[GUARD + LONGEST + GUARD];
-    size_t length;
+    union {
+        uint8_t bytes[GUARD + LONGEST + GUARD];
+        uint64_t numbers[(GUARD + LONGEST + GUARD) / sizeof(uint64_t)];
+    } block;
+    size_t length, size;
 };
 
 static struct lent lent[LENT_AT_MOST];
@@ -33,7 +38,8 @@ static void fail(const char *words)
     exit(3);
 }
 
-static uint8_t *bytes(struct lent *l) { return l->block + GUARD; }
+static uint8_t *bytes(struct lent *l) { return l->block.bytes + GUARD; }
+static uint64_t *numbers(struct lent *l) { return l->block.numbers + GUARD / sizeof(uint64_t); }
 
 /* The next word of the request. */
 static const char *word(void)
@@ -44,30 +50,47 @@ static const char *word(void)
     return found;
 }
 
-/* The next word as bytes, between guards. */
-static struct lent *lend(void)
+/* What some hexadecimal digits stand for, at most 16. */
+static uint64_t hexadecimal(const char *digits, size_t count)
+{
+    char alone[17] = "", *end;
+    memcpy(alone, digits, count);
+    uint64_t value = strtoull(alone, &end, 16);
+    if (end != alone + count)
+        fail("not a digit");
+    return value;
+}
+
+/* The next word, as bytes or as numbers of 8 bytes, between guards. */
+static struct lent *lend_each(size_t size)
 {
     const char *digits = word();
     struct lent *l = &lent[lents++];
-    memset(l->block, GUARD_BYTE, sizeof l->block);
-    l->length = strcmp(digits, "-") == 0 ? 0 : strlen(digits) / 2;
-    if (l->length > LONGEST)
+    l->size = size;
+    l->length = strcmp(digits, "-") == 0 ? 0 : strlen(digits) / (2 * size);
+    if (l->length * size > LONGEST)
         fail("too many bytes");
+    memset(l->block.bytes, GUARD_BYTE, GUARD);
+    memset(bytes(l) + l->length * size, GUARD_BYTE, GUARD);
     for (size_t i = 0; i < l->length; i++) {
-        unsigned byte;
-        if (sscanf(digits + 2 * i, "%2x", &byte) != 1)
-            fail("not a digit");
-        bytes(l)[i] = (uint8_t)byte;
+        uint64_t one = hexadecimal(digits + 2 * size * i, 2 * size);
+        if (size == 1)
+            bytes(l)[i] = (uint8_t)one;
+        else
+            numbers(l)[i] = one;
     }
     return l;
 }
+
+static struct lent *lend(void) { return lend_each(1); }
+static struct lent *lend_numbers(void) { return lend_each(sizeof(uint64_t)); }
 
 static uint64_t decimal(void) { return strtoull(word(), NULL, 10); }
 
 static void check_guards(struct lent *l)
 {
     for (size_t i = 0; i < GUARD; i++)
-        if (l->block[i] != GUARD_BYTE || bytes(l)[l->length + i] != GUARD_BYTE)
+        if (l->block.bytes[i] != GUARD_BYTE || bytes(l)[l->length * l->size + i] != GUARD_BYTE)
             fail("bytes that were not lent are changed");
 }
 
@@ -78,7 +101,7 @@ static void answer(unsigned refusal, unsigned line, uint64_t answered)
         check_guards(&lent[i]);
         putchar(' ');
         for (size_t k = 0; k < lent[i].length; k++)
-            printf("%02x", bytes(&lent[i])[k]);
+            printf("%0*" PRIx64, (int)(2 * lent[i].size), lent[i].size == 1 ? bytes(&lent[i])[k] : numbers(&lent[i])[k]);
         if (lent[i].length == 0)
             putchar('-');
     }
@@ -129,6 +152,21 @@ static void each_reason(void)
     answer(0, 0, output->length);
 }
 
+static void quote(void)
+{
+    uint64_t process = decimal();
+    struct lent *ticket = lend(), *costs = lend_numbers(), *priced = lend_numbers();
+    uint64_t a = uc_quote(bytes(ticket), ticket->length, numbers(costs), costs->length, process, numbers(priced));
+    answer(uc_quote_refusal(a), uc_quote_line(a), a);
+}
+
+static void price(void)
+{
+    struct lent *state = lend(), *costs = lend_numbers(), *priced = lend_numbers();
+    uint64_t a = uc_price(bytes(state), state->length, numbers(costs), costs->length, numbers(priced));
+    answer(uc_price_refusal(a), 0, a);
+}
+
 static void start(void)
 {
     uint64_t process = decimal(), n = decimal(), t = decimal(), value = decimal();
@@ -156,8 +194,8 @@ int main(void)
     static const struct {
         const char *name;
         void (*make)(void);
-    } calls[] = {{"run", run}, {"settle", settle}, {"reason", reason}, {"reasons", reasons},
-                 {"each", each_reason}, {"start", start}, {"speak", speak}, {"close", close_round}};
+    } calls[] = {{"run", run}, {"settle", settle}, {"reason", reason}, {"reasons", reasons}, {"each", each_reason},
+                 {"quote", quote}, {"price", price}, {"start", start}, {"speak", speak}, {"close", close_round}};
     static char request[4 * LONGEST + 256];
 
     while (fgets(request, sizeof request, stdin)) {

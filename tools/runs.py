@@ -12,6 +12,7 @@ refusal, `what_is_wrong` says which of the things that its text names is the cas
 from __future__ import annotations
 
 import collections
+import decimal
 import functools
 import os
 import re
@@ -35,6 +36,8 @@ CARRIAGE_RETURN = 0x0D
 MOST_BYTES, MOST_PROCESSES = 4096, 64
 COORDINATED, COMMITTED, VALUE_ONLY, CRASHED_BEFORE, CRASHED_NOW, CRASHES, ENDED_BEFORE = range(1, 8)  # the reasons
 OUTSIDE = 13  # the refusal of a process or a round that a run does not have
+MOST_COSTS, HIGHEST_COST = 200, 1_000_000_000  # of a tender: its lines, and the direct cost of each in pence
+WRONG_COUNT, TOO_HIGH, NO_QUOTE = 14, 15, 16  # the refusals of a tender's lines, of a cost, and of a process that has no quote
 
 
 class Unusable(Exception):
@@ -194,6 +197,11 @@ class Process:
 
     def hears_in(self, round_number):
         return self.begins(round_number) and not self.crashes_in(round_number)
+
+    @property
+    def decided(self):
+        """The value that it decided; none if it crashed."""
+        return self.value if self.end == DECIDED else None
 
     @property
     def idle(self):
@@ -411,6 +419,32 @@ def worked_reasons(run):
         true = ([reason for reason, those in applies.items() if process.id in those] for process in run.processes)
         table += [found[0] if len(found) == 1 else 0 for found in true]
     return table
+
+
+def worked_line(rates, cost):
+    """A tender line by a rate set (02, Paper 9): of overhead and of markup what it comes to, exactly and rounded, and the line with it.
+    For tests of the library."""
+    steps, line = [], cost
+    for rate in divmod(rates, 1 << 16):
+        exact = decimal.Decimal(line * rate).scaleb(-4)  # the rate is in hundredths of a percent
+        rounded = int(exact.quantize(decimal.Decimal(1), decimal.ROUND_HALF_UP))
+        line += rounded
+        steps.append((exact, rounded, line))
+    return steps
+
+
+def worked_quote(rates, costs):
+    """The quote of a tender by a rate set, likewise; or its refusal, with line 0. Of a process that has decided none, the rate set is none."""
+    if not 1 <= len(costs) <= MOST_COSTS:
+        return WRONG_COUNT, 0
+    if max(costs) > HIGHEST_COST:
+        return TOO_HIGH, 0
+    return (NO_QUOTE, 0) if rates is None else sum(worked_line(rates, cost)[-1][-1] for cost in costs)
+
+
+def decided_state(run, process):
+    """The nine bytes of the part of a process that has decided. For tests of the library."""
+    return bytes([process.id, run.n, run.t, process.round, DECIDED]) + process.value.to_bytes(4, "big")
 
 
 def contradicting_reasons(run):

@@ -17,6 +17,8 @@ Settling answers the lowest round that qualifies (Paper 6): the first of those t
 has the rounds of the run too and nothing else of what running writes (`settlings`).
 
 paper-07.jsonl has the reasons of whole runs, and single reasons or refusals (`reasons`).
+
+paper-09.jsonl has quotes or refusals, each of a process by the direct costs of a tender's lines (`quotes`).
 """
 
 from __future__ import annotations
@@ -31,6 +33,7 @@ PAPERS = ["paper-01", "paper-02", "paper-03", "paper-04"]  # whose vectors are o
 TICKET_FILES = [BASE, *PAPERS]
 SETTLING = "paper-06"  # whose vectors are of settling a ticket
 REASONS = "paper-07"  # whose vectors are of the reason of a process in a round
+QUOTES = "paper-09"  # whose vectors are of the quote of a process
 COUNTED_AS_SENT = [BASE, "paper-01", "paper-02"]  # whose `result` is of before Paper 4
 FLOOD = (b"05", b"06")  # how a ticket begins that is refused until Paper 5 lands
 COUNTS = 4  # digits at the end of a process's line, two for each count (Paper 2)
@@ -38,7 +41,8 @@ PROCESS_LINE = 20  # digits of it in all
 LAST_COUNTS = 8  # digits at the end of the last line, four for each count
 LAST_LINE = 16  # digits of it in all
 LINES_WITH_COUNTS = {b"11": (PROCESS_LINE, COUNTS), b"12": (LAST_LINE, LAST_COUNTS)}
-TOO_SHORT = 9  # the refusal of an output
+TOO_SHORT = 9  # the refusal of an output; those below it are of a ticket
+NOT_A_STATE = 10  # that of a process part's bytes
 OUTSIDE = 13  # that of a process or a round that a run does not have
 
 
@@ -61,6 +65,11 @@ class Vector:
     @property
     def place(self):
         return f"{self.file}.jsonl, line {self.number}"
+
+    @property
+    def of_ticket(self):
+        """Whether it is refused for its ticket, whatever is asked of it."""
+        return self.refusal is not None and self.refusal[0] < TOO_SHORT
 
 
 @dataclass
@@ -89,10 +98,16 @@ class Reasons(Vector):
         """The reasons of the whole run, round by round; none if the vector has one alone."""
         return [reason for of_round in self.rounds for reason in of_round] if self.rounds else None
 
-    @property
-    def of_ticket(self):
-        """Whether it is refused for its ticket, whatever is asked of it."""
-        return self.refusal is not None and self.refusal[0] != OUTSIDE
+
+@dataclass
+class Quote(Vector):
+    """A ticket, the direct costs of a tender's lines and a process, with its quote or a refusal."""
+
+    text: bytes
+    costs: list  # in pence
+    process: int
+    quote: int | None  # in pence; none if it is refused
+    refusal: tuple | None  # its number and line
 
 
 @dataclass
@@ -218,7 +233,7 @@ def tickets(*files):
 
 
 def refusal_of(vector):
-    """Number and line of the refusal that a vector of Papers 6 and 7 has; none if it has none."""
+    """Number and line of the refusal that a vector of Papers 6, 7 and 9 has; none if it has none."""
     refusal = vector.get("refusal")
     return (refusal["number"], refusal["line"]) if refusal else None
 
@@ -240,6 +255,15 @@ def reasons():
     return [
         Reasons(REASONS, number, vector["about"], text_of(vector, "ticket"), *map(vector.get, names), refusal_of(vector))
         for number, vector in objects(REASONS)
+    ]
+
+
+def quotes():
+    """The vectors of Paper 9."""
+    names = ("direct_costs", "desk", "quote")
+    return [
+        Quote(QUOTES, number, vector["about"], text_of(vector, "ticket"), *map(vector.get, names), refusal_of(vector))
+        for number, vector in objects(QUOTES)
     ]
 
 

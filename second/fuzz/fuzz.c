@@ -1,4 +1,4 @@
-/* A libFuzzer harness for the seven functions of libagreement.a.
+/* A libFuzzer harness for the nine functions of libagreement.a.
  *
  * The first byte of the input picks the function, the rest is what it is
  * called with (seed-corpus writes inputs of this form). Checked is first what
@@ -9,10 +9,11 @@
  * processes are possible by its own ends and add up, and that they are within
  * the bounds by speakers (document 02, Papers 2 and 4), that nobody decides
  * before the settling round (Paper 6), that reasons are possible by the ends of
- * the result, single ones being those of the table (Paper 7), and that
- * a ticket in other letters is answered alike and leaves the same bytes (Paper
- * 1); and then that the second implementation answers alike and leaves the same
- * bytes.
+ * the result, single ones being those of the table (Paper 7), that quotes are
+ * those of the value that the result has, by the ticket and by the state of each
+ * that decides (Paper 9), and that a ticket in other letters is answered alike
+ * and leaves the same bytes (Paper 1); and then that the second implementation
+ * answers alike and leaves the same bytes.
  *
  * libagreement.a is not instrumented: the fuzzer is led by the coverage of the
  * second implementation, which runs the same input, and of this file. */
@@ -27,6 +28,10 @@ uint64_t uc_settle(const uint8_t *ticket, size_t ticket_len);
 uint64_t uc_reason(const uint8_t *ticket, size_t ticket_len, uint64_t process, uint64_t round);
 uint64_t uc_reasons(const uint8_t *ticket, size_t ticket_len, uint8_t *reasons,
                     size_t reasons_len);
+uint64_t uc_quote(const uint8_t *ticket, size_t ticket_len, const uint64_t *costs,
+                  size_t cost_count, uint64_t process, uint64_t *quote);
+uint64_t uc_price(const uint8_t *state, size_t state_len, const uint64_t *costs, size_t cost_count,
+                  uint64_t *quote);
 uint64_t uc_start(uint64_t process, uint64_t n, uint64_t t, uint32_t value, uint8_t *state,
                   size_t state_len);
 uint64_t uc_speak(const uint8_t *state, size_t state_len, uint8_t *output, size_t output_len);
@@ -38,6 +43,10 @@ uint64_t second_settle(const uint8_t *ticket, size_t ticket_len);
 uint64_t second_reason(const uint8_t *ticket, size_t ticket_len, uint64_t process, uint64_t round);
 uint64_t second_reasons(const uint8_t *ticket, size_t ticket_len, uint8_t *reasons,
                         size_t reasons_len);
+uint64_t second_quote(const uint8_t *ticket, size_t ticket_len, const uint64_t *costs,
+                      size_t cost_count, uint64_t process, uint64_t *quote);
+uint64_t second_price(const uint8_t *state, size_t state_len, const uint64_t *costs,
+                      size_t cost_count, uint64_t *quote);
 uint64_t second_start(uint64_t process, uint64_t n, uint64_t t, uint32_t value, uint8_t *state,
                       size_t state_len);
 uint64_t second_speak(const uint8_t *state, size_t state_len, uint8_t *output, size_t output_len);
@@ -53,7 +62,9 @@ enum {
     STATE = 9,
     SPEECH = 8,
     DATA = 6,
-    GUARD = 16,
+    MOST_LINES = 200,
+    HIGHEST_COST = 1000000000,
+    GUARD = 16, /* so that numbers stand behind it as they must */
     REFUSED = 65536,
 };
 
@@ -431,6 +442,141 @@ static void fuzz_reasons(Input input) {
     take_back(other_table);
 }
 
+/* Direct costs between two guards: how many lines there are, how many costs follow, and these
+ * from the first on, again and again. */
+static Lent take_costs(Input *input) {
+    size_t lines = take_number(input, 1), given = take_number(input, 1);
+    uint64_t costs[256] = {0};
+    for (size_t k = 0; k < given; k++) costs[k] = take_number(input, 8);
+    for (size_t k = given; k < lines && given > 0; k++) costs[k] = costs[k - given];
+    return lend((const uint8_t *)costs, lines * sizeof *costs);
+}
+
+static uint64_t *numbers_in(Lent lent) { return (uint64_t *)lent.bytes; }
+
+static size_t count_of(Lent costs) { return costs.length / sizeof(uint64_t); }
+
+/* The refusal of tender lines, 14 or 15; 0 if there is none. */
+static uint64_t refusal_of_lines(Lent costs) {
+    uint64_t refusal = count_of(costs) < 1 || count_of(costs) > MOST_LINES ? 14 : 0;
+    for (size_t k = 0; k < count_of(costs) && refusal == 0; k++) {
+        if (numbers_in(costs)[k] > HIGHEST_COST) refusal = 15;
+    }
+    return refusal;
+}
+
+/* An amount and a percentage of it, in hundredths of a percent. */
+static uint64_t with_percentage(uint64_t amount, uint32_t rate) {
+    return amount + (amount * rate + 5000) / 10000;
+}
+
+/* The quote in pence by a decided value. */
+static uint64_t quote_by(uint32_t value, Lent costs) {
+    uint64_t quote = 0;
+    for (size_t k = 0; k < count_of(costs); k++) {
+        quote += with_percentage(with_percentage(numbers_in(costs)[k], value >> 16), value & 0xFFFF);
+    }
+    return quote;
+}
+
+/* All processes that decide in a run with this result quote alike: by the states that they
+ * decide in, and the last of them by the ticket. */
+static void check_deciders(uint64_t right, const uint8_t *result, Input ticket, Lent costs) {
+    uint8_t n = (uint8_t)number_in(ticket.bytes, 1, 1), t = (uint8_t)number_in(ticket.bytes, 2, 1);
+    uint64_t quote = 0, last = 0;
+    for (uint8_t process = 1; process <= n; process++) {
+        const uint8_t *line = line_of(result, process);
+        if (number_in(line, 2, 1) != 1) continue;
+        uint8_t state[STATE] = {process, n, t, (uint8_t)number_in(line, 3, 1), 1};
+        for (size_t k = 0; k < 4; k++) state[5 + k] = (uint8_t)number_in(line, 4 + k, 1);
+        CHECK(uc_price(state, STATE, numbers_in(costs), count_of(costs), &quote) == 0);
+        CHECK(quote == right);
+        last = process;
+    }
+    Lent text = lend(ticket.bytes, ticket.length);
+    CHECK(uc_quote(text.bytes, text.length, numbers_in(costs), count_of(costs), last, &quote) == 0);
+    CHECK(quote == right);
+    take_back(text);
+}
+
+/* What is answered and written for a ticket that is accepted with this result. */
+static void check_quote(uint64_t answer, Lent quote, const uint8_t *result, Input ticket,
+                        Lent costs, uint64_t process) {
+    uint64_t refusal = refusal_of_lines(costs);
+    int is_of_run = 1 <= process && process <= number_in(ticket.bytes, 1, 1);
+    const uint8_t *line = is_of_run ? line_of(result, (uint32_t)process) : NULL;
+    if (refusal == 0 && (line == NULL || number_in(line, 2, 1) != 1)) refusal = 16;
+    CHECK(answer == refusal * REFUSED);
+    if (refusal == 0) {
+        uint64_t right = quote_by(number_in(line, 4, 4), costs);
+        CHECK(*numbers_in(quote) == right);
+        check_deciders(right, result, ticket, costs);
+    }
+}
+
+static void fuzz_quote(Input input) {
+    uint8_t result[LONGEST_RESULT];
+    uint64_t process = take_number(&input, 8);
+    Lent costs = take_costs(&input), before = lend(costs.bytes, costs.length);
+    size_t count = count_of(costs);
+    uint64_t written = run_ample(input, result);
+    Lent text = lend(input.bytes, input.length), other = lend_in_other_letters(input);
+    Lent quotes[3];
+    for (size_t k = 0; k < 3; k++) quotes[k] = lend(NULL, sizeof(uint64_t));
+    uint64_t *quote = numbers_in(quotes[0]), *by_second = numbers_in(quotes[1]);
+    uint64_t *in_other_letters = numbers_in(quotes[2]);
+    const uint64_t *list = numbers_in(costs);
+    uint64_t answer = uc_quote(text.bytes, text.length, list, count, process, quote);
+    CHECK(second_quote(text.bytes, text.length, list, count, process, by_second) == answer);
+    CHECK(uc_quote(other.bytes, other.length, list, count, process, in_other_letters) == answer);
+    check_same(quotes[0], quotes[1]);
+    check_same(quotes[0], quotes[2]);
+    check_same(costs, before);
+    CHECK(memcmp(text.bytes, input.bytes, input.length) == 0);
+    if (answer != 0) CHECK(untouched_from(quotes[0], 0));
+    if (written >= REFUSED) {
+        CHECK(answer == written);
+    } else {
+        check_quote(answer, quotes[0], result, input, costs, process);
+    }
+    for (size_t k = 0; k < 3; k++) take_back(quotes[k]);
+    take_back(costs);
+    take_back(before);
+    take_back(text);
+    take_back(other);
+}
+
+static void fuzz_price(Input input) {
+    Lent costs = take_costs(&input), before = lend(costs.bytes, costs.length);
+    Lent state = lend(input.bytes, input.length);
+    Lent quote = lend(NULL, sizeof(uint64_t)), by_second = lend(NULL, sizeof(uint64_t));
+    const uint64_t *list = numbers_in(costs);
+    size_t count = count_of(costs);
+    uint64_t answer = uc_price(state.bytes, state.length, list, count, numbers_in(quote));
+    CHECK(second_price(state.bytes, state.length, list, count, numbers_in(by_second)) == answer);
+    check_same(quote, by_second);
+    check_same(costs, before);
+    CHECK(memcmp(state.bytes, input.bytes, input.length) == 0);
+    /* States are refused as speaking refuses them. */
+    uint8_t output[SPEECH];
+    uint64_t refusal = uc_speak(state.bytes, state.length, output, SPEECH);
+    if (refusal != 10) refusal = refusal_of_lines(costs);
+    if (refusal == 0 && state.bytes[4] != 1) refusal = 16;
+    CHECK(answer == refusal);
+    if (refusal != 0) {
+        CHECK(untouched_from(quote, 0));
+    } else {
+        uint32_t value = 0;
+        for (size_t k = 5; k < STATE; k++) value = value << 8 | state.bytes[k];
+        CHECK(*numbers_in(quote) == quote_by(value, costs));
+    }
+    take_back(costs);
+    take_back(before);
+    take_back(state);
+    take_back(quote);
+    take_back(by_second);
+}
+
 static void fuzz_start(Input input) {
     uint64_t process = take_number(&input, 8), n = take_number(&input, 8);
     uint64_t t = take_number(&input, 8);
@@ -518,7 +664,7 @@ static void fuzz_close(Input input) {
 int LLVMFuzzerTestOneInput(const uint8_t *bytes, size_t length) {
     if (length == 0) return 0;
     Input input = {bytes + 1, length - 1};
-    switch (bytes[0] % 7) {
+    switch (bytes[0] % 9) {
     case 0: fuzz_run(input); break;
     case 1: fuzz_settle(input); break;
     case 2: fuzz_start(input); break;
@@ -526,6 +672,8 @@ int LLVMFuzzerTestOneInput(const uint8_t *bytes, size_t length) {
     case 4: fuzz_close(input); break;
     case 5: fuzz_reason(input); break;
     case 6: fuzz_reasons(input); break;
+    case 7: fuzz_quote(input); break;
+    case 8: fuzz_price(input); break;
     }
     return 0;
 }

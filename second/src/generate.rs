@@ -1,6 +1,7 @@
 //! Random tickets, well formed and damaged.
 
 use crate::rng::Rng;
+use crate::tenders;
 use crate::ticket::{processes_above, Failure, Ticket, MOST_PROCESSES};
 
 /// The bit by which a small letter differs from its capital. In other bytes it
@@ -29,6 +30,12 @@ fn proposals(rng: &mut Rng, n: u8) -> Vec<u32> {
         _ => rng.next_u64() as u32,
     };
     (1..=n).map(value).collect()
+}
+
+/// The ticket with a rate set as each proposal (02, Paper 9).
+pub fn with_rate_sets(rng: &mut Rng, ticket: Ticket) -> Ticket {
+    let proposals = ticket.proposals.iter().map(|_| tenders::rate_set(rng)).collect();
+    Ticket { proposals, ..ticket }
 }
 
 fn failures(rng: &mut Rng, n: u8, t: u8) -> Vec<Failure> {

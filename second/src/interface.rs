@@ -1,14 +1,15 @@
-//! The module's seven operations, with their answers as numbers, as its C
+//! The module's nine operations, with their answers as numbers, as its C
 //! interface has them.
 
 use crate::local;
+use crate::pricing;
 use crate::refusal::{Reason, Refusal};
 use crate::Simulator;
 
 /// Multiplies a refusal's number in the answers about tickets.
 pub const REFUSED: u64 = 65536;
 
-/// An implementation of the seven operations, total on every input.
+/// An implementation of the nine operations, total on every input.
 pub trait Agreement {
     /// Runs a ticket: the bytes written, or 65536 · number + line (1 to 9).
     fn run(&mut self, ticket: &[u8], output: &mut [u8]) -> u64;
@@ -23,6 +24,15 @@ pub trait Agreement {
     /// The reasons of all processes in all rounds, round by round: the bytes written, or
     /// 65536 · number + line (1 to 9).
     fn reasons(&mut self, ticket: &[u8], output: &mut [u8]) -> u64;
+
+    /// Quotes tender lines by what a process of the ticket's run decides: 0, and the pence
+    /// are in `quote`; or 65536 · number + line (1 to 8, and then 14 to 16 at line 0), and
+    /// `quote` is as it was.
+    fn quote(&mut self, ticket: &[u8], costs: &[u64], process: u64, quote: &mut u64) -> u64;
+
+    /// Quotes them by what a process has decided whose state this is: 0, and the pence are
+    /// in `quote`; or refusal 10, 14, 15 or 16, and `quote` is as it was.
+    fn price(&mut self, state: &[u8], costs: &[u64], quote: &mut u64) -> u64;
 
     /// Starts a process: 0, or refusal 10.
     fn start(&mut self, process: u64, n: u64, t: u64, value: u32, state: &mut [u8]) -> u64;
@@ -43,6 +53,12 @@ fn answer<T>(result: Result<T, Reason>, accepted: impl FnOnce(T) -> u64) -> u64 
     result.map_or_else(|reason| u64::from(reason.number()), accepted)
 }
 
+/// The answer to a call that has written a quote.
+fn written(pence: u64, quote: &mut u64) -> u64 {
+    *quote = pence;
+    0
+}
+
 impl Agreement for Simulator {
     fn run(&mut self, ticket: &[u8], output: &mut [u8]) -> u64 {
         let written = Simulator::run(self, ticket, output);
@@ -61,6 +77,17 @@ impl Agreement for Simulator {
     fn reasons(&mut self, ticket: &[u8], output: &mut [u8]) -> u64 {
         let written = Simulator::reasons(self, ticket, output);
         written.map_or_else(refused, |length| length as u64)
+    }
+
+    fn quote(&mut self, ticket: &[u8], costs: &[u64], process: u64, quote: &mut u64) -> u64 {
+        let quoted = Simulator::quote(self, ticket, costs, process);
+        quoted.map_or_else(refused, |pence| written(pence, quote))
+    }
+
+    fn price(&mut self, state: &[u8], costs: &[u64], quote: &mut u64) -> u64 {
+        let decision = local::decision(state);
+        let quoted = decision.and_then(|decision| pricing::quote(decision, costs));
+        answer(quoted, |pence| written(pence, quote))
     }
 
     fn start(&mut self, process: u64, n: u64, t: u64, value: u32, state: &mut [u8]) -> u64 {

@@ -1,5 +1,5 @@
 //! A second implementation of document 01's base version and of document 02's
-//! Papers 1 to 4, 6 and 7, written from the papers alone and in a shape of its own: a run
+//! Papers 1 to 4, 6, 7 and 9, written from the papers alone and in a shape of its own: a run
 //! is simulated message by message, with a mailbox for each process and a switch
 //! in between.
 //!
@@ -12,6 +12,7 @@
 //! | 02, Paper 4: which messages are dropped, and so not counted | [`switch::Switch`] |
 //! | 02, Paper 6: the first settling round | [`Simulator::settling_round`] |
 //! | 02, Paper 7: the reason of each process in each round | [`round_reason`], [`process::Course`] |
+//! | 02, Paper 9: pricing from what is decided | [`pricing`] |
 //! | "A round" | [`process`], [`switch`], [`simulation`] |
 //! | "The result", refusal 9, settling | [`Simulator`], [`report`] |
 //! | "The desk part", refusals 9 to 12 | [`local`] |
@@ -22,7 +23,7 @@
 //! The paper's stations, desks and frames are processes and messages here, and
 //! a process that goes dark has crashed, as in document 001.
 //! [`generate`], [`patterns`] and [`corpus`] make tickets to try implementations
-//! on, [`recount`] counts and gives reasons in another way, and [`interface`] is what the
+//! on and [`tenders`] tender lines, [`recount`] counts and gives reasons in another way, and [`interface`] is what the
 //! implementations have in common. [`worlds`] changes the rules one at a time and
 //! shows which claims fail then.
 
@@ -35,6 +36,7 @@ pub mod interface;
 pub mod lines;
 pub mod local;
 pub mod patterns;
+pub mod pricing;
 pub mod process;
 pub mod recount;
 pub mod refusal;
@@ -44,6 +46,7 @@ pub mod round_reason;
 pub mod separate;
 pub mod simulation;
 pub mod switch;
+pub mod tenders;
 pub mod ticket;
 pub mod worked;
 pub mod worlds;

@@ -168,6 +168,15 @@ pub fn close(state: &mut [u8], heard: &[u8]) -> Result<(), Reason> {
     Ok(())
 }
 
+/// The value that a process has decided, if it has (refusal 10).
+pub fn decision(state: &[u8]) -> Result<Option<u32>, Reason> {
+    let state = State::decode(state)?;
+    Ok(match state.mark {
+        Mark::Decided => Some(u32::from_be_bytes(state.value)),
+        Mark::Open | Mark::RoundsOver => None,
+    })
+}
+
 #[cfg(test)]
 mod tests {
     use super::*;
@@ -223,9 +232,21 @@ mod tests {
         }
         for (process, round, mark) in unreachable {
             let bytes = state(process, round, mark);
+            assert_eq!(decision(&bytes), Err(Reason::InvalidState));
             assert_eq!(speak(&bytes, &mut [0; 8]), Err(Reason::InvalidState));
             assert_eq!(closed(bytes, &[]), Err(Reason::InvalidState));
         }
+    }
+
+    #[test]
+    fn a_decision_is_that_of_a_decided_process_alone() {
+        for (process, round, mark) in [(2, 2, 1), (1, 1, 1), (4, 2, 1)] {
+            assert_eq!(decision(&state(process, round, mark)), Ok(Some(5)));
+        }
+        for (process, round, mark) in [(1, 1, 0), (4, 2, 0), (4, 2, 2)] {
+            assert_eq!(decision(&state(process, round, mark)), Ok(None));
+        }
+        assert_eq!(decision(&state(2, 2, 1)[..8]), Err(Reason::InvalidState));
     }
 
     #[test]

@@ -115,6 +115,11 @@ impl Process {
         self.status
     }
 
+    /// The value that it has decided, if it has.
+    pub fn decision(&self) -> Option<u32> {
+        matches!(self.status, Status::Decided(_)).then_some(self.estimate)
+    }
+
     /// The messages that it was charged for.
     pub fn carried(&self) -> MessageCounts {
         self.carried

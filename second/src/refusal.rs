@@ -1,4 +1,4 @@
-//! Refusals (01, "Refused calls, by operation"; 02, Paper 7).
+//! Refusals (01, "Refused calls, by operation"; 02, Papers 7 and 9).
 
 use std::fmt;
 
@@ -32,6 +32,13 @@ pub enum Reason {
     InvalidHearing = 12,
     /// No such process, or no such round in the run (02, Paper 7).
     OutsideTheRun = 13,
+    /// No tender lines, or more than 200 (02, Paper 9).
+    LinesOutsideLimits = 14,
+    /// A direct cost above its limit (02, Paper 9).
+    CostOutsideLimits = 15,
+    /// No decision to quote by: no such process, or it has crashed or not decided (02,
+    /// Paper 9).
+    NoDecision = 16,
 }
 
 impl Reason {

@@ -35,6 +35,9 @@ pub struct SeparateRun {
     /// each round from 1 to t + 1; 0 for one that hears nothing of a coordinator that has
     /// neither crashed before nor crashes.
     pub reasons: Vec<Vec<u8>>,
+    /// The state that each part is left in; one that crashes keeps the state with which
+    /// that round began.
+    pub states: Vec<[u8; STATE_LENGTH]>,
 }
 
 /// One process: its state, and what it has heard in this round.
@@ -99,7 +102,12 @@ pub fn run_separately(module: &mut impl Agreement, ticket: &Ticket) -> Result<Se
         }
         one_value.push(hold_one_value(&locals));
     }
-    Ok(SeparateRun { ends: locals.iter().map(Local::end).collect(), one_value, reasons })
+    Ok(SeparateRun {
+        ends: locals.iter().map(Local::end).collect(),
+        one_value,
+        reasons,
+        states: locals.iter().map(|local| local.state).collect(),
+    })
 }
 
 /// Why a process will stand where it does when the round is closed (02, Paper 7): by

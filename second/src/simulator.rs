@@ -1,5 +1,6 @@
-//! The operations on a ticket's text: running it, settling, and giving reasons.
+//! The operations on a ticket's text: running it, settling, giving reasons, and quoting.
 
+use crate::pricing;
 use crate::process::Process;
 use crate::refusal::{Reason, Refusal};
 use crate::report::{result_length, write_result};
@@ -96,6 +97,17 @@ impl Simulator {
         let room = output.get_mut(..numbers.len());
         room.ok_or(Reason::OutputTooShort.at_no_line())?.copy_from_slice(&numbers);
         Ok(numbers.len())
+    }
+
+    /// The quote for tender lines of these direct costs, by what a process decides (02,
+    /// Paper 9). Refusals 1 to 8, and then 14 to 16.
+    pub fn quote(&mut self, text: &[u8], costs: &[u64], process: u64) -> Result<u64, Refusal> {
+        self.ticket.read(text)?;
+        self.simulation.reset(&self.ticket);
+        self.simulation.run(|_, _| {});
+        let mut processes = self.simulation.processes().iter();
+        let asked = processes.find(|other| u64::from(other.id()) == process);
+        pricing::quote(asked.and_then(Process::decision), costs).map_err(Reason::at_no_line)
     }
 
     /// What the program prints for `text` with an output of `room` bytes: the

@@ -1,5 +1,7 @@
 //! What demands 2 and 3, the paper's bound and Papers 1, 2, 4, 6 and 7 of document 02
-//! claim of every run, tried on random tickets.
+//! claim of every run, tried on random tickets. (Those of Paper 9 are in pricing.rs.)
+
+mod tickets;
 
 use std::collections::BTreeSet;
 
@@ -7,13 +9,13 @@ use second::generate;
 use second::process::{Message, MessageCounts, Process, Status};
 use second::recount::{self, counted, crashed_before, crashes_in, decided_before, sent};
 use second::report::result_length;
-use second::rng::Rng;
 use second::round_reason::MOST_REASONS;
 use second::separate::{run_separately, End};
 use second::simulation::{Simulation, Totals};
 use second::switch::{Fate, Uplink};
-use second::ticket::{Crash, Ticket, MOST_PROCESSES};
+use second::ticket::{Crash, Ticket};
 use second::{RoundReason, Simulator};
+use tickets::random_tickets;
 
 /// What becomes of each process, with the value it decides, and the totals.
 fn run(ticket: &Ticket) -> (Vec<(Status, u32)>, Totals) {
@@ -25,14 +27,6 @@ fn run(ticket: &Ticket) -> (Vec<(Status, u32)>, Totals) {
         status => (status, process.estimate()),
     });
     (ends.collect(), totals)
-}
-
-fn random_tickets(seed: u64) -> impl Iterator<Item = (Rng, Ticket)> {
-    (0..4000).map(move |number| {
-        let mut rng = Rng::new(seed << 32 | number);
-        let ticket = generate::ticket(&mut rng, MOST_PROCESSES);
-        (rng, ticket)
-    })
 }
 
 #[test]

@@ -6,7 +6,8 @@
 //! and both without the counts of line 12. The counts of before Paper 4 are compared
 //! by themselves, with what is carried and what is dropped. Of the rounds that
 //! base.jsonl says qualify for settling, the first is the settling round; paper-06.jsonl
-//! says it by itself. paper-07.jsonl has the reasons of whole runs and single ones.
+//! says it by itself. paper-07.jsonl has the reasons of whole runs and single ones,
+//! paper-09.jsonl quotes.
 
 mod json;
 
@@ -195,6 +196,33 @@ fn reasons_of_paper_7() {
     let figures = [vectors.len(), runs, outside];
     assert!(vectors.len() >= 290 && runs >= 173 && outside >= 10, "{figures:?}");
     assert!(shown[0] == 0 && shown[1..].iter().all(|&count| count > 50), "{shown:?}");
+}
+
+#[test]
+fn quotes_of_paper_9() {
+    let mut simulator = Simulator::new();
+    let vectors = vectors("paper-09.jsonl");
+    let (mut quoted, mut shown) = (0, [0; 17]);
+    for (line, vector) in (1..).zip(&vectors) {
+        let about = format!("line {line}: {}", vector.text("about"));
+        let text = vector.written("ticket").expect(&about);
+        let (costs, process) = (vector.list("direct_costs"), vector.number("desk"));
+        let before = 0xEEEE_EEEE_EEEE_EEEE;
+        let right = if vector.has("refusal") {
+            (refused(vector), before)
+        } else {
+            (0, vector.number("quote"))
+        };
+        let mut quote = before;
+        let answer = Agreement::quote(&mut simulator, &text, costs, process, &mut quote);
+        assert_eq!((answer, quote), right, "{about}");
+        quoted += usize::from(answer == 0);
+        shown[(answer / REFUSED) as usize] += 1;
+    }
+    let figures = [vectors.len(), quoted];
+    assert!(vectors.len() >= 270 && quoted >= 190, "{figures:?}");
+    let numbers = (1..=8).chain(14..=16);
+    assert!(numbers.into_iter().all(|number| shown[number] > 0), "{shown:?}");
 }
 
 fn sum_of(a: [u16; 2], b: [u16; 2]) -> [u16; 2] {

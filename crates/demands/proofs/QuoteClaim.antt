@@ -1,17 +1,15 @@
 -- What the call answers that quotes, by cases, and that any two processes that decided quote alike. Assumes nothing.
 use mathlib.Core.List.{List}
-use mathlib.Core.Option.{Option, some, none}
 use mathlib.Core.Path.{_≡_, refl, sym, ap, _∙_}
 use mathlib.Core.Bool.{Bool, true, false, cond, _&&_, true≢false}
 use Prim.Native.Nat.{ℕ, _-_, _^_, _≤_, _<_}
 use native.Mathlib.Omega.{arith}
-use borrow.Author.Tests.{eq-eqb, ne-eqb, eqb-true, eqb-false, leb-true, le-leb}
+use borrow.Author.Tests.{ne-eqb, eqb-true, eqb-false, leb-true, le-leb}
 use lib.Dec.{eqb, leb}
-use lib.ListN.{length}
 use Rattle.general.proofs.Tests.{both}
 use Rattle.consensus.specs.Instance.{Instance, proposalOf}
 use Rattle.consensus.specs.State.{State, undecided, decided, crashed}
-use Rattle.consensus.specs.Consensus.{IsProcess, Decides, Validity, CrashesNoOther, CrashesUndecided, UniformConsensus}
+use Rattle.consensus.specs.Consensus.{IsProcess, Decides, Validity, CrashesNoOther, CrashesUndecided}
 use Rattle.coordinator.specs.Run.{endOf, latestOf}
 use Rattle.coordinator.specs.WellFormed.{WellFormed}
 use Rattle.consensus.proofs.SameEnds.{SameEnds}
@@ -19,7 +17,7 @@ use Rattle.coordinator.proofs.Consensus.{uniform-consensus}
 use Rattle.coordinator.proofs.Settled.{none-ends-undecided}
 use Rattle.formats.specs.Reading.{Reading, accepted, refused}
 use Rattle.formats.specs.Ticket.{readTicket}
-use Rattle.formats.specs.Code.{codeOf, refusalCode}
+use Rattle.formats.specs.Code.{codeOf}
 use Rattle.formats.proofs.WellFormed.{accepted-well-formed}
 use Rattle.formats.proofs.FirstWrong.{refused-wrong}
 use Rattle.pricing.specs.Price.{priceOf}
@@ -30,21 +28,18 @@ use Rattle.pricing.specs.UniformQuotes.{Quotes, UniformQuotes, QuotesOfConsensu
 use Rattle.pricing.proofs.PricedLines.{priced-lines}
 use Rattle.pricing.proofs.Largest.{largest}
 use Rattle.pricing.proofs.UniformQuotes.{uniform-quotes}
-use Rattle.part_format.specs.PartState.{stateFrom, stateValid, stateRefusal, ValidBytes}
+use Rattle.part_format.specs.PartState.{stateRefusal, ValidBytes}
 use Rattle.part_format.proofs.ValidBytes.{valid-taken}
-use Rattle.part_host.specs.Part.{Part, up, bytesKept}
+use Rattle.part_host.specs.Part.{up, bytesKept}
 use Rattle.part_host.specs.Host.{endPartOf}
 use Rattle.part_host.specs.PartEnds.{stateByPart, endByPart}
-use Rattle.part_host.specs.DecideAlike.{EndsAs}
 use Rattle.part_host.proofs.PartsConsensus.{parts-consensus}
 use Rattle.part_host.proofs.Kept.{kept-decided, kept-crashed}
 use Rattle.pricing_format.specs.Quoting.{quotedOr16, ofLines, quoteIn, quoting}
 use Rattle.pricing_format.specs.OwnQuote.{ownQuote}
-use Rattle.pricing_format.specs.QuoteCall.{placeAfter, quoteCode, refusalNumber, QuoteCall, PriceCall}
+use Rattle.pricing_format.specs.QuoteCall.{placeAfter, quoteCode, QuoteCall, PriceCall}
 use Rattle.pricing_format.proofs.QuotesApart.{quotes-apart}
 use Rattle.quotes.specs.Answer.{quoteOfAnswer}
-use Rattle.demands.specs.OutputSays.{Counts, OutputSays}
-use Rattle.demands.specs.Written.{Wrote}
 use Rattle.demands.specs.QuoteClaim.{QuoteAnswered, quoted, noProcess, QuoteClaim}
 use Rattle.demands.proofs.Demand3.{demand-3, ends-said}
 

@@ -2,7 +2,6 @@
 -- ticket quote the same penny for the same lines. (After 1 to 8, in this order: 14, no lines or more than 200; 15, a direct cost above 1,000,000,000; 16, a
 -- desk outside 1 to n or dark.)").
 use mathlib.Core.List.{List}
-use mathlib.Core.Option.{some}
 use mathlib.Core.Path.{_≡_}
 use Prim.Native.Nat.{ℕ, _≤_}
 use Rattle.consensus.specs.Instance.{Instance}

@@ -1,13 +1,13 @@
 -- No number on the way to a quote needs more than 64 bits, and which quote is the largest. Assumes nothing.
 use mathlib.Core.List.{List, [], _∷_}
 use mathlib.Core.Path.{_≡_, refl}
-use mathlib.Core.Bool.{Bool, true, false, cond}
-use Prim.Native.Nat.{ℕ, _+_, _*_, _≤_, _<_}
+use mathlib.Core.Bool.{false}
+use Prim.Native.Nat.{ℕ, _*_, _≤_}
 use native.Mathlib.Nat.{mul-le-mul}
 use native.Mathlib.Omega.{arith}
-use lib.ListN.{length, replicate}
+use lib.ListN.{length}
 use Rattle.pricing.specs.Price.{overheadOf, markupOf, nearest, withRate, linePrice, priceOf}
-use Rattle.pricing.specs.Quote.{mostLines, highestCost, anyAbove, linesRefusal}
+use Rattle.pricing.specs.Quote.{highestCost, anyAbove, linesRefusal}
 use Rattle.pricing.specs.Largest.{highestRates, highestRate, highestSum, highestPrice, largestQuote, Largest}
 use Rattle.pricing.proofs.Lines.{few-lines, first-within, rest-within, none-above}
 

@@ -9,7 +9,7 @@ use lib.ListN.{length, getD}
 use borrow.Author.Tests.{eqb-true, eqb-false, ltb-true, ltb-false}
 use Rattle.pricing.specs.Quote.{mostLines, highestCost, anyAbove, linesRefusal}
 use Rattle.pricing.specs.PricedLines.{Priced, Unpriced, noLines, manyLines, highCost, PricedLines}
-use Rattle.pricing.proofs.Lines.{first-above, first-below, first-within, rest-within, no-lines, many-lines, by-costs, few-lines, none-above}
+use Rattle.pricing.proofs.Lines.{first-below, first-within, rest-within, no-lines, many-lines, by-costs, few-lines, none-above}
 
 module _ (limit : ℕ) where
   -- No cost is above the limit, or some is.

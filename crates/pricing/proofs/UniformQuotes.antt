@@ -1,15 +1,15 @@
 -- Uniform consensus makes quotes uniform. Assumes nothing.
 use mathlib.Core.List.{List}
-use mathlib.Core.Option.{Option, some, none}
+use mathlib.Core.Option.{some}
 use mathlib.Core.Path.{_≡_, refl, sym, ap, _∙_}
 use Prim.Native.Nat.{ℕ}
 use native.Mathlib.Omega.{arith}
 use Rattle.consensus.specs.Instance.{Instance}
 use Rattle.consensus.specs.State.{State, undecided, decided, crashed}
-use Rattle.consensus.specs.Consensus.{Decides, Agreement, Validity, Termination, UniformConsensus}
+use Rattle.consensus.specs.Consensus.{Decides, Agreement, Validity, Termination}
 use Rattle.pricing.specs.Price.{priceOf}
 use Rattle.pricing.specs.Quote.{quoteBy}
-use Rattle.pricing.specs.UniformQuotes.{Quotes, UniformQuotes, QuotesOfConsensus}
+use Rattle.pricing.specs.UniformQuotes.{Quotes, QuotesOfConsensus}
 
 -- Whose end gives a quote has decided.
 pub quote-decided : (s : State) (costs : List ℕ) (pence : ℕ) → quoteBy s costs ≡ some pence → (r : ℕ) × (v : ℕ) × (s ≡ decided r v) × (pence ≡ priceOf v costs)

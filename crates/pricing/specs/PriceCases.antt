@@ -1,10 +1,10 @@
 -- Prices by hand (document 02, Paper 9): the rates of a value, both sides of each half penny, lines and sums of lines, and which lines are priced.
 use mathlib.Core.List.{List, [], _∷_, _++_, map}
-use mathlib.Core.Option.{Option, some, none}
+use mathlib.Core.Option.{some, none}
 use mathlib.Core.Path.{_≡_}
 use Prim.Native.Nat.{ℕ, _+_}
 use lib.ListN.{replicate}
-use Rattle.consensus.specs.State.{State, undecided, decided, crashed}
+use Rattle.consensus.specs.State.{undecided, decided, crashed}
 use Rattle.pricing.specs.Price.{overheadOf, markupOf, nearest, linePrice, priceOf}
 use Rattle.pricing.specs.Quote.{linesRefusal, quoteBy}
 

@@ -4,7 +4,7 @@ use mathlib.Core.Logic.{inl, inr}
 use mathlib.Core.Option.{Option, some, none}
 use mathlib.Core.Path.{_≡_, refl}
 use mathlib.Core.Bool.{Bool, true, false, cond, _&&_}
-use Prim.Native.Nat.{ℕ, _≤_, _<_}
+use Prim.Native.Nat.{ℕ}
 use native.Mathlib.Omega.{arith}
 use lib.Dec.{eqb, leb}
 use borrow.Author.Tests.{eqb-false}
@@ -23,7 +23,7 @@ use Rattle.part_host.specs.PartEnds.{stateByPart}
 use Rattle.pricing_format.specs.Quoting.{quotedOr16, ofLines, quoteIn, quoting}
 use Rattle.pricing_format.specs.OwnQuote.{ownQuote}
 use Rattle.pricing_format.specs.QuoteCall.{refusalNumber}
-use Rattle.pricing_format.specs.QuotesApart.{ofQuoting, ofState, NumberReadOff, QuotesApart}
+use Rattle.pricing_format.specs.QuotesApart.{ofQuoting, NumberReadOff, QuotesApart}
 
 -- A quote, or a refusal of no line that is one of 14 to 16.
 pub data QuoteOr : Reading ℕ → Type 0 where

@@ -1,6 +1,6 @@
 -- Quotes for tickets, from text to pence (document 02, Paper 9): the figures of the request, which processes have a quote, which refusal comes first, and the
 -- numbers that a C caller is answered.
-use mathlib.Core.List.{List, [], _∷_, _++_, map}
+use mathlib.Core.List.{List, [], _∷_, map}
 use mathlib.Core.Path.{_≡_}
 use Prim.Native.Nat.{ℕ}
 use Prim.Native.String.{String}

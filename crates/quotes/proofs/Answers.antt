@@ -12,7 +12,7 @@ use Rattle.general.specs.BigEndian.{number}
 use Rattle.general.proofs.Tests.{both}
 use Rattle.consensus.specs.Instance.{Instance}
 use Rattle.consensus.specs.State.{State, undecided, decided, crashed}
-use Rattle.coordinator.specs.Run.{runOf, endOf}
+use Rattle.coordinator.specs.Run.{runOf}
 use Rattle.coordinator.specs.WellFormed.{WellFormed}
 use Rattle.tables.specs.declared.InstanceTable.{InstanceTable}
 use Rattle.tables.specs.declared.RunTable.{RunTable}

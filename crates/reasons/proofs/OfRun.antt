@@ -10,7 +10,7 @@ use lib.ListN.{getD}
 use Rattle.general.proofs.Table.{tabulate-same}
 use Rattle.general.proofs.Tests.{by-order, by-equal}
 use Rattle.consensus.specs.Instance.{Instance, correct, crashes, CrashPoint, beforeSending, duringData, duringCommits, pointFrom}
-use Rattle.consensus.specs.State.{State, undecided, decided, crashed, stateOf}
+use Rattle.consensus.specs.State.{State, undecided, decided, crashed}
 use Rattle.consensus.specs.Consensus.{IsProcess}
 use Rattle.coordinator.specs.Message.{getsData}
 use Rattle.coordinator.specs.Delivery.{amongFirst, reachAt}

@@ -33,6 +33,12 @@ pub struct Counts {
     pub tables: u64,
     /// Tables of the module under test that were held to what its separate parts hear.
     pub heard: u64,
+    /// Calls that quote by a ticket.
+    pub quotes: u64,
+    /// Calls that quote by a state.
+    pub prices: u64,
+    /// Runs of which all that decide were held to one quote of the module under test.
+    pub quoted_alike: u64,
     /// Runs by separate local parts.
     pub separate_runs: u64,
     /// Results of the module under test whose counts by process were added up.
@@ -58,6 +64,7 @@ impl fmt::Display for Counts {
             "{} tickets ({} accepted, {} refused) in {} runs, {} settlings, \
              {} settling rounds held to what separate parts hold, \
              {} single reasons, {} tables of reasons and {} held to what separate parts hear, \
+             {} quotes by tickets, {} by states and {} runs held to one quote, \
              {} runs by separate parts, {} results added up and {} held to the bounds on messages \
              and on commits; \
              {} of these tickets with each of the 256 bytes in place of another; \
@@ -71,6 +78,9 @@ impl fmt::Display for Counts {
             self.reasons,
             self.tables,
             self.heard,
+            self.quotes,
+            self.prices,
+            self.quoted_alike,
             self.separate_runs,
             self.added_up,
             self.within_bounds,
@@ -93,7 +103,7 @@ pub enum Difference {
         /// The call and both answers.
         what: String,
     },
-    /// On a call of start, speak or close.
+    /// On a call of start, speak, close or price.
     Call {
         /// The call and both answers.
         what: String,
@@ -115,7 +125,7 @@ pub(crate) fn filled(length: usize, fill: u8) -> Vec<u8> {
     (0..length + GUARD).map(|at| fill.wrapping_add(at as u8)).collect()
 }
 
-fn hex(bytes: &[u8]) -> String {
+pub(crate) fn hex(bytes: &[u8]) -> String {
     let digits: String = bytes.iter().map(|byte| format!("{byte:02X}")).collect();
     format!("[{digits}]")
 }
@@ -238,7 +248,7 @@ impl<M: Agreement> Comparison<M> {
 
     /// Everything about one ticket: runs with output buffers of the lengths
     /// `rooms`, settling, reasons, separate local parts, by which settling and reasons
-    /// are right too, and the sums of the counts and their bounds.
+    /// are right too, quotes, and the sums of the counts and their bounds.
     pub fn ticket(&mut self, text: &[u8], rooms: &[usize]) -> Result<(), Difference> {
         let differs = |what| Difference::Ticket { text: text.to_vec(), what };
         for &room in rooms {
@@ -254,12 +264,14 @@ impl<M: Agreement> Comparison<M> {
                 let separate = self.separate_run(&ticket, result).map_err(differs)?;
                 self.keep_settled(settled, result, &separate).map_err(differs)?;
                 self.keep_reasons(text, result, &separate).map_err(differs)?;
+                self.accepted_quotes(text, &separate).map_err(differs)?;
                 self.add_up(result).map_err(differs)?;
                 self.keep_bounds(result).map_err(differs)
             }
             Err(_) => {
                 self.counts.refused += 1;
-                self.refused_reasons(text, settled).map_err(differs)
+                self.refused_reasons(text, settled).map_err(differs)?;
+                self.refused_quotes(text).map_err(differs)
             }
         }
     }
@@ -311,7 +323,8 @@ impl<M: Agreement> Comparison<M> {
 
     /// The claim of Paper 1 about one ticket: in other letters, into an equal
     /// buffer of `room` bytes, it is answered alike, leaves the same bytes, and
-    /// settles alike and for the same reasons. A text that has no letters is not counted.
+    /// settles alike, for the same reasons and with the same quotes. A text that has no
+    /// letters is not counted.
     pub fn in_other_letters(&mut self, text: &[u8], room: usize) -> Result<(), Difference> {
         let Some(other) = relettered(text) else {
             return Ok(());
@@ -328,7 +341,8 @@ impl<M: Agreement> Comparison<M> {
             let [round, other_round] = [round, other_round].map(in_words);
             return Err(differs(format!("settling answers {round}, {IN_LETTERS} {other_round}")));
         }
-        self.reasons_in_other_letters(text, &other).map_err(differs)
+        self.reasons_in_other_letters(text, &other).map_err(differs)?;
+        self.quotes_in_other_letters(text, &other).map_err(differs)
     }
 
     /// Separate local parts against the lines of the module's own result: the
@@ -834,6 +848,14 @@ mod tests {
 
         fn reasons(&mut self, ticket: &[u8], output: &mut [u8]) -> u64 {
             Agreement::reasons(&mut self.0, ticket, output)
+        }
+
+        fn quote(&mut self, ticket: &[u8], costs: &[u64], process: u64, quote: &mut u64) -> u64 {
+            Agreement::quote(&mut self.0, ticket, costs, process, quote)
+        }
+
+        fn price(&mut self, state: &[u8], costs: &[u64], quote: &mut u64) -> u64 {
+            self.0.price(state, costs, quote)
         }
 
         fn start(&mut self, process: u64, n: u64, t: u64, value: u32, state: &mut [u8]) -> u64 {

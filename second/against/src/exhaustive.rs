@@ -1,12 +1,14 @@
 //! Everything small, every byte at every place of a ticket, every count of a
-//! process, every settling round, every reason of some runs of each n, the stored
-//! tickets, and every call of start, speak and close near a valid one.
+//! process, every settling round, every reason and every quote of some runs of each n,
+//! the stored tickets, and every call of start, speak, close and price near a valid one.
 
 use second::corpus::{self, Entry};
 use second::interface::Agreement;
 use second::local::{SPEECH_LENGTH, STATE_LENGTH};
 use second::patterns::failure_patterns;
+use second::pricing::HIGHEST_COST;
 use second::report::result_length;
+use second::tenders::{self, RATE_SETS};
 use second::ticket::{processes_above, MOST_PROCESSES};
 use second::worked;
 use second::{Failure, Ticket};
@@ -14,8 +16,8 @@ use second::{Failure, Ticket};
 use crate::comparison::{rooms_around, rooms_at_limits, Comparison, Difference};
 
 /// Every t and every accepted failure pattern of n ≤ 4 processes, each with
-/// every proposal from two values and with all proposals different, and each in
-/// other letters too.
+/// every proposal from two values and with all proposals different rate sets, and each
+/// in other letters too.
 pub fn tickets<M: Agreement>(comparison: &mut Comparison<M>) -> Result<(), Difference> {
     for n in 1..=4 {
         let rooms = rooms_around(n, 2);
@@ -33,13 +35,13 @@ pub fn tickets<M: Agreement>(comparison: &mut Comparison<M>) -> Result<(), Diffe
     Ok(())
 }
 
-/// Two values in every way, and all different.
+/// Two values in every way, and all different rate sets.
 fn proposals(n: u8) -> Vec<Vec<u32>> {
     let two_values = (0..1 << n).map(|choice: u32| {
         let chosen = |process: u8| choice >> process & 1 == 1;
         (0..n).map(|process| if chosen(process) { u32::MAX } else { 0 }).collect()
     });
-    let different = (1..=u32::from(n)).map(|process| 10 * process).collect();
+    let different = RATE_SETS[..usize::from(n)].to_vec();
     two_values.chain([different]).collect()
 }
 
@@ -250,6 +252,51 @@ pub fn single_reasons_of<M: Agreement>(
     Ok(())
 }
 
+/// For each n every quote of some runs (02, Paper 9), and every percentage.
+pub fn quotes<M: Agreement>(comparison: &mut Comparison<M>) -> Result<(), Difference> {
+    (1..=MOST_PROCESSES).try_for_each(|n| quotes_of(comparison, n))?;
+    percentages(comparison)
+}
+
+/// Those of runs of `n` processes that propose rate sets, of which none crashes; or every
+/// second does in round 1 before it sends anything; or all but the last do, each in its own
+/// round after one commit; or process 1 after all its commits, so that all others decide.
+pub fn quotes_of<M: Agreement>(comparison: &mut Comparison<M>, n: u8) -> Result<(), Difference> {
+    let commits = |process: u8| Failure::sending_commits(process, (n - process).min(1));
+    let ways: [Vec<Failure>; 4] = [
+        Vec::new(),
+        (1..n).step_by(2).map(|process| Failure::before_sending(process, 1)).collect(),
+        (1..n).map(commits).collect(),
+        (1..n).take(1).map(|process| Failure::sending_commits(process, n - 1)).collect(),
+    ];
+    for failures in ways {
+        let proposals = RATE_SETS.into_iter().cycle().take(n.into()).collect();
+        let ticket = Ticket { n, t: n - 1, proposals, failures };
+        let differs = |what| Difference::Ticket { text: ticket.text(), what };
+        comparison.every_quote(&ticket).map_err(differs)?;
+    }
+    Ok(())
+}
+
+/// Every overhead and every markup, each by itself and both alike, on amounts around
+/// where it comes to a half; and some rate sets on every amount up to 20,000 pence.
+pub fn percentages<M: Agreement>(comparison: &mut Comparison<M>) -> Result<(), Difference> {
+    let mut price = |value: u32, cost: u64| {
+        let [a, b, c, d] = value.to_be_bytes();
+        comparison.price(&[2, 4, 2, 1, 1, a, b, c, d], &[cost])
+    };
+    for rate in 0..=u16::MAX {
+        let half = tenders::first_half(rate).unwrap_or(5000);
+        for value in [u32::from(rate) << 16, rate.into(), u32::from(rate) << 16 | u32::from(rate)] {
+            (half - 1..=half + 1).try_for_each(|cost| price(value, cost))?;
+        }
+    }
+    for value in RATE_SETS {
+        (0..=20_000).try_for_each(|cost| price(value, cost))?;
+    }
+    Ok(())
+}
+
 /// The stored tickets, each with its own output buffer.
 pub fn stored<M: Agreement>(comparison: &mut Comparison<M>) -> Result<(), Difference> {
     corpus::stored().into_iter().try_for_each(|Entry { text, room }| {
@@ -341,8 +388,8 @@ pub fn starts<M: Agreement>(comparison: &mut Comparison<M>) -> Result<(), Differ
     Ok(())
 }
 
-/// Speak and close on every state whose first bytes are near the limits, with
-/// outputs and hearings that are right or just not right.
+/// Speak, close and price on every state whose first bytes are near the limits, with
+/// outputs, hearings and tender lines that are right or just not right.
 pub fn states<M: Agreement>(comparison: &mut Comparison<M>) -> Result<(), Difference> {
     let sizes = [(0, 0), (1, 0), (1, 1), (2, 0), (2, 1), (4, 0), (4, 1), (4, 2), (4, 3), (4, 4)];
     let large = [(4, 255), (63, 62), (64, 0), (64, 62), (64, 63), (64, 64), (65, 2), (255, 254)];
@@ -352,6 +399,7 @@ pub fn states<M: Agreement>(comparison: &mut Comparison<M>) -> Result<(), Differ
                 for mark in [0, 1, 2, 3, 0xFF] {
                     let state = [process, n, t, round, mark, 0xDE, 0xAD, 0xBE, 0xEF];
                     speak_and_close(comparison, &state, round)?;
+                    prices_in(comparison, &state)?;
                 }
             }
         }
@@ -359,8 +407,18 @@ pub fn states<M: Agreement>(comparison: &mut Comparison<M>) -> Result<(), Differ
     let state = [2, 4, 2, 2, 0, 0, 0, 0, 7, 0, 0];
     for length in 0..=state.len() {
         speak_and_close(comparison, &state[..length], 2)?;
+        prices_in(comparison, &state[..length])?;
     }
     Ok(())
+}
+
+/// Pricing in a state: lines that are quoted, no lines, and a line that costs too much.
+pub fn prices_in<M: Agreement>(
+    comparison: &mut Comparison<M>,
+    state: &[u8],
+) -> Result<(), Difference> {
+    let lists: [&[u64]; 3] = [&[5, HIGHEST_COST, 12_345], &[], &[5, HIGHEST_COST + 1]];
+    lists.into_iter().try_for_each(|costs| comparison.price(state, costs))
 }
 
 fn near_limits(n: u8, t: u8) -> Vec<u8> {
@@ -451,6 +509,15 @@ mod tests {
             Agreement::reasons(&mut self.second, &ticket, output)
         }
 
+        fn quote(&mut self, ticket: &[u8], costs: &[u64], process: u64, quote: &mut u64) -> u64 {
+            let ticket = self.misread(ticket);
+            Agreement::quote(&mut self.second, &ticket, costs, process, quote)
+        }
+
+        fn price(&mut self, state: &[u8], costs: &[u64], quote: &mut u64) -> u64 {
+            self.second.price(state, costs, quote)
+        }
+
         fn start(&mut self, process: u64, n: u64, t: u64, value: u32, state: &mut [u8]) -> u64 {
             self.second.start(process, n, t, value, state)
         }
@@ -476,9 +543,11 @@ mod tests {
 
     /// What the second implementation was asked for: the counts that stand in its
     /// results, of which process, which of the two, and how many; each settling round
-    /// with the rounds of its run; and the reasons, of which process in which round.
+    /// with the rounds of its run; the reasons, of which process in which round; and the
+    /// quotes, of which process, for how many lines, and with which refusal.
     #[derive(Default)]
     struct Record {
+        quotes: BTreeSet<(u64, usize, u64)>,
         counts: BTreeSet<(u8, usize, u8)>,
         settled: BTreeSet<(u64, u8)>,
         reasons: BTreeSet<(u8, u8, u8)>,
@@ -529,6 +598,16 @@ mod tests {
                 }
             }
             answer
+        }
+
+        fn quote(&mut self, ticket: &[u8], costs: &[u64], process: u64, quote: &mut u64) -> u64 {
+            let answer = Agreement::quote(&mut self.second, ticket, costs, process, quote);
+            self.record.borrow_mut().quotes.insert((process, costs.len(), answer / REFUSED));
+            answer
+        }
+
+        fn price(&mut self, state: &[u8], costs: &[u64], quote: &mut u64) -> u64 {
+            self.second.price(state, costs, quote)
         }
 
         fn start(&mut self, process: u64, n: u64, t: u64, value: u32, state: &mut [u8]) -> u64 {
@@ -604,6 +683,31 @@ mod tests {
                 .filter(|&(process, round, reason)| is_possible(n, process, round, reason))
                 .collect();
             assert_eq!(recorded(reasons_of, n).reasons, all, "{n}");
+        }
+    }
+
+    /// Every process decides in one of the runs, and all but the last crash in another.
+    #[test]
+    fn every_process_is_asked_for_a_quote_at_every_limit() {
+        for n in [1, 2, 3, 7, 12] {
+            let quotes = recorded(quotes_of, n).quotes;
+            let is_answered = |process: u64, refusal: u64| {
+                quotes.iter().any(|&(other, _, given)| (other, given) == (process, refusal))
+            };
+            for process in 1..=u64::from(n) {
+                let crashes = process < u64::from(n);
+                assert!(is_answered(process, 0), "{process} of {n}");
+                assert_eq!(is_answered(process, 16), crashes, "{process} of {n}");
+            }
+            for process in [0, u64::from(n) + 1, 257, 1 << 32 | 1, u64::MAX] {
+                let refusals: BTreeSet<u64> =
+                    (0..=16).filter(|&refusal| is_answered(process, refusal)).collect();
+                let all = if [0, u64::from(n) + 1].contains(&process) { 14..=16 } else { 16..=16 };
+                assert_eq!(refusals, all.collect(), "{process} of {n}");
+            }
+            for length in [0, 1, 199, 200, 201, 65_537] {
+                assert!(quotes.iter().any(|&(_, other, _)| other == length), "{length}");
+            }
         }
     }
 

@@ -1,10 +1,11 @@
 //! The proved static library against the second implementation.
 //!
-//! - [`proved`]: the library's seven functions.
+//! - [`proved`]: the library's nine functions.
 //! - [`comparison`]: one call or one ticket, given to both.
-//! - `reasons`: of these, the reasons of a ticket's run.
+//! - `reasons` and `quotes`: of these, the reasons of a ticket's run, and its quotes.
 //! - [`exhaustive`]: the stored tickets, every small ticket, every count of a process,
-//!   every settling round, every reason of some runs, and every call near a valid one.
+//!   every settling round, every reason and every quote of some runs, and every call near
+//!   a valid one.
 //! - [`random`]: tickets and calls by chance.
 //! - [`shrink`]: the smallest ticket that shows a difference.
 
@@ -13,6 +14,7 @@
 pub mod comparison;
 pub mod exhaustive;
 pub mod proved;
+mod quotes;
 pub mod random;
 mod reasons;
 pub mod shrink;

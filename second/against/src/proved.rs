@@ -1,4 +1,4 @@
-//! The seven functions of `libagreement.a`.
+//! The nine functions of `libagreement.a`.
 
 use second::interface::Agreement;
 
@@ -11,6 +11,21 @@ extern "C" {
         ticket_len: usize,
         reasons: *mut u8,
         reasons_len: usize,
+    ) -> u64;
+    fn uc_quote(
+        ticket: *const u8,
+        ticket_len: usize,
+        costs: *const u64,
+        cost_count: usize,
+        process: u64,
+        quote: *mut u64,
+    ) -> u64;
+    fn uc_price(
+        state: *const u8,
+        state_len: usize,
+        costs: *const u64,
+        cost_count: usize,
+        quote: *mut u64,
     ) -> u64;
     fn uc_start(process: u64, n: u64, t: u64, value: u32, state: *mut u8, state_len: usize) -> u64;
     fn uc_speak(state: *const u8, state_len: usize, output: *mut u8, output_len: usize) -> u64;
@@ -38,6 +53,15 @@ impl Agreement for Proved {
 
     fn reasons(&mut self, ticket: &[u8], output: &mut [u8]) -> u64 {
         unsafe { uc_reasons(ticket.as_ptr(), ticket.len(), output.as_mut_ptr(), output.len()) }
+    }
+
+    fn quote(&mut self, ticket: &[u8], costs: &[u64], process: u64, quote: &mut u64) -> u64 {
+        let (ticket, ticket_len) = (ticket.as_ptr(), ticket.len());
+        unsafe { uc_quote(ticket, ticket_len, costs.as_ptr(), costs.len(), process, quote) }
+    }
+
+    fn price(&mut self, state: &[u8], costs: &[u64], quote: &mut u64) -> u64 {
+        unsafe { uc_price(state.as_ptr(), state.len(), costs.as_ptr(), costs.len(), quote) }
     }
 
     fn start(&mut self, process: u64, n: u64, t: u64, value: u32, state: &mut [u8]) -> u64 {

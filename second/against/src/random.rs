@@ -5,17 +5,22 @@ use second::interface::Agreement;
 use second::local::STATE_LENGTH;
 use second::report::{result_length, LONGEST_RESULT};
 use second::rng::Rng;
+use second::tenders;
 use second::ticket::MOST_PROCESSES;
 
 use crate::comparison::{rooms_at_limits, Comparison, Difference};
 
-/// A ticket of up to 64 processes, damaged every other time, in any letters and
-/// in others; and with it some calls of start, speak and close.
+/// A ticket of up to 64 processes, half of them with rate sets as proposals, damaged every
+/// other time, in any letters and in others; and with it some calls of start, speak,
+/// close and price.
 pub fn ticket_and_calls<M: Agreement>(
     comparison: &mut Comparison<M>,
     rng: &mut Rng,
 ) -> Result<(), Difference> {
-    let ticket = generate::ticket(rng, MOST_PROCESSES);
+    let mut ticket = generate::ticket(rng, MOST_PROCESSES);
+    if rng.one_in(2) {
+        ticket = generate::with_rate_sets(rng, ticket);
+    }
     let text = if rng.one_in(2) {
         generate::damaged(rng, &ticket)
     } else {
@@ -33,7 +38,7 @@ pub fn ticket_and_calls<M: Agreement>(
     calls(comparison, rng)
 }
 
-/// One call each of start, speak and close.
+/// One call each of start, speak and close, and two of price.
 fn calls<M: Agreement>(comparison: &mut Comparison<M>, rng: &mut Rng) -> Result<(), Difference> {
     let [process, n, t] = [0; 3].map(|_| start_number(rng));
     let value = rng.next_u64() as u32;
@@ -44,7 +49,24 @@ fn calls<M: Agreement>(comparison: &mut Comparison<M>, rng: &mut Rng) -> Result<
     let room = rng.below(14);
     comparison.speak(&state, room)?;
     let heard = heard(rng, state.get(3).copied().unwrap_or(1));
-    comparison.close(&state, &heard)
+    comparison.close(&state, &heard)?;
+    prices(comparison, rng, state)
+}
+
+/// Pricing in a state, which is that of a process that has decided every other time:
+/// lines that are quoted, and lines that are not.
+fn prices<M: Agreement>(
+    comparison: &mut Comparison<M>,
+    rng: &mut Rng,
+    mut state: Vec<u8>,
+) -> Result<(), Difference> {
+    if rng.one_in(2) && state.len() > 4 {
+        state[4] = 1;
+    }
+    let value =
+        state.get(5..9).and_then(|bytes| bytes.try_into().ok()).map_or(0, u32::from_be_bytes);
+    comparison.price(&state, &tenders::quoted(rng, value))?;
+    comparison.price(&state, &tenders::refused(rng))
 }
 
 fn start_number(rng: &mut Rng) -> u64 {

@@ -369,6 +369,14 @@ mod tests {
             table.len() as u64
         }
 
+        fn quote(&mut self, ticket: &[u8], costs: &[u64], process: u64, quote: &mut u64) -> u64 {
+            Agreement::quote(&mut self.0, ticket, costs, process, quote)
+        }
+
+        fn price(&mut self, state: &[u8], costs: &[u64], quote: &mut u64) -> u64 {
+            self.0.price(state, costs, quote)
+        }
+
         fn start(&mut self, process: u64, n: u64, t: u64, value: u32, state: &mut [u8]) -> u64 {
             self.0.start(process, n, t, value, state)
         }

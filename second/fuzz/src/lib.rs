@@ -66,6 +66,37 @@ pub unsafe extern "C" fn second_reasons(
 }
 
 /// # Safety
+/// The pointers are not null and good for the lengths beside them, `quote` for a number.
+#[no_mangle]
+pub unsafe extern "C" fn second_quote(
+    ticket: *const u8,
+    ticket_len: usize,
+    costs: *const u64,
+    cost_count: usize,
+    process: u64,
+    quote: *mut u64,
+) -> u64 {
+    let (ticket, costs) =
+        (slice::from_raw_parts(ticket, ticket_len), slice::from_raw_parts(costs, cost_count));
+    with_second(|second| Agreement::quote(second, ticket, costs, process, &mut *quote))
+}
+
+/// # Safety
+/// The pointers are not null and good for the lengths beside them, `quote` for a number.
+#[no_mangle]
+pub unsafe extern "C" fn second_price(
+    state: *const u8,
+    state_len: usize,
+    costs: *const u64,
+    cost_count: usize,
+    quote: *mut u64,
+) -> u64 {
+    let (state, costs) =
+        (slice::from_raw_parts(state, state_len), slice::from_raw_parts(costs, cost_count));
+    with_second(|second| second.price(state, costs, &mut *quote))
+}
+
+/// # Safety
 /// The pointer is not null and good for the length beside it.
 #[no_mangle]
 pub unsafe extern "C" fn second_start(

@@ -1,10 +1,8 @@
 -- `price` meets its contract. The loop's invariant: the sum is the price of the costs so far (`SumTo`). Assumes nothing.
-use mathlib.Core.Path.{_≡_, sym, ap, subst}
-use Prim.Native.Nat.{ℕ, _+_, _-_, _≤_}
+use Prim.Native.Nat.{_-_}
 use native.Mathlib.Omega.{arith}
 use borrow.Author.Needs.{needs}
 use lib.ListN.{length}
-use Rattle.pricing.specs.Largest.{highestRates}
 use Rattle.pricing_lines.proofs.Turn.{SumTo, sum-first, sum-whole, cost-low, price-low, sum-next}
 use Rattle.pricing_lines.proofs.price.Statement.{statement}
 use Rattle.pricing_lines.proofs.price.Tie as tie

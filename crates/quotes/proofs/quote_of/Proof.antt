@@ -1,6 +1,5 @@
 -- `quote_of` meets its contract: each answer is a law of Answers, at what reading the ticket ensures. Assumes nothing.
 use mathlib.Core.Path.{_≡_, sym, _∙_}
-use native.Mathlib.Omega.{arith}
 use borrow.Author.Needs.{needs}
 use Rattle.tables.specs.InstanceOfTable.{instanceOf}
 use Rattle.formats.specs.Reading.{accepted}

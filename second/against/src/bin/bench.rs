@@ -9,6 +9,7 @@ use std::time::{Duration, Instant};
 
 use against::proved::Proved;
 use second::interface::Agreement;
+use second::pricing::MOST_LINES;
 use second::report::LONGEST_RESULT;
 use second::round_reason::MOST_REASONS;
 use second::simulation::Simulation;
@@ -155,6 +156,34 @@ fn time_reasons(time: Duration) {
     }
 }
 
+/// As many tender lines as a quote may have.
+fn tender_lines() -> [u64; MOST_LINES] {
+    std::array::from_fn(|line| 12_345 + 1000 * line as u64)
+}
+
+/// Quotes of one line and of as many as there may be, for the last process, which decides
+/// in all of these tickets.
+fn time_quotes(time: Duration) {
+    let costs = tender_lines();
+    let tickets = [
+        ("n 4, case 1", worked::case(1).text()),
+        ("n 64, no crash", silent(0).text()),
+        ("n 64, 63 crashes", without_commits().text()),
+    ];
+    for (lines, costs) in [("one line", &costs[..1]), ("200 lines", &costs)] {
+        println!("quotes of {lines}, per second");
+        for (name, text) in &tickets {
+            let (process, _) = last_place(text);
+            let quote = |module: &mut dyn Agreement| {
+                let mut pence = 0;
+                black_box(module.quote(black_box(text), black_box(costs), process, &mut pence));
+                black_box(pence);
+            };
+            row(name, rates(time, quote));
+        }
+    }
+}
+
 /// The last process and the last round of a ticket's run; 1 and 1 if it is refused.
 fn last_place(text: &[u8]) -> (u64, u64) {
     Ticket::parse(text).map_or((1, 1), |ticket| {
@@ -205,12 +234,23 @@ fn time_local_calls(time: Duration) {
         }),
     ];
     for (name, call) in calls {
-        let [proved, second] = rates(time, |module| {
-            black_box(call(module));
-        })
-        .map(|calls| 1e9 / calls);
-        println!("{name:<32}{proved:>14.1}{second:>14.1}{:>8.2}", proved / second);
+        time_local_call(time, name, call);
     }
+    let (decided, costs) = ([9, 64, 63, 3, 1, 0x05, 0xDC, 0x03, 0xE8], tender_lines());
+    for (name, costs) in [("price, one line", &costs[..1]), ("price, 200 lines", &costs)] {
+        time_local_call(time, name, |module| {
+            let mut pence = 0;
+            module.price(black_box(&decided), black_box(costs), &mut pence) + black_box(pence)
+        });
+    }
+}
+
+fn time_local_call(time: Duration, name: &str, call: impl Fn(&mut dyn Agreement) -> u64) {
+    let [proved, second] = rates(time, |module| {
+        black_box(call(module));
+    })
+    .map(|calls| 1e9 / calls);
+    println!("{name:<32}{proved:>14.1}{second:>14.1}{:>8.2}", proved / second);
 }
 
 fn seconds() -> Option<f64> {
@@ -233,6 +273,7 @@ fn main() -> ExitCode {
     let time = Duration::from_secs_f64(seconds);
     time_tickets(time);
     time_reasons(time);
+    time_quotes(time);
     time_local_calls(time);
     println!();
     println!("The best of {TURNS} turns that both take alternately, {seconds} s in all for each.");

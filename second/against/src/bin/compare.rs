@@ -2,8 +2,8 @@
 //!
 //! `compare [--short] [--seed NUMBER] [--count NUMBER]`: the stored tickets,
 //! everything small, every byte at every place of a ticket, every count of a process,
-//! every settling round, every reason of some runs, and then `count` random tickets with calls of start, speak
-//! and close. The last line says what was compared; a difference is shown by the
+//! every settling round, every reason and every quote of some runs, and then `count` random
+//! tickets with calls of start, speak, close and price. The last line says what was compared; a difference is shown by the
 //! smallest ticket that could be found, and the exit status is 1.
 
 use std::env;
@@ -51,7 +51,7 @@ fn compare(
         let mut rng = Rng::new(seed);
         (0..count).try_for_each(|_| random::ticket_and_calls(comparison, &mut rng))
     };
-    let parts: [Part; 10] = [
+    let parts: [Part; 11] = [
         ("every stored ticket", &exhaustive::stored),
         ("every ticket of up to 4 processes", &exhaustive::tickets),
         ("every byte at every place of a ticket", &exhaustive::bytes),
@@ -59,8 +59,9 @@ fn compare(
         ("every count of every process for each n", &exhaustive::counts),
         ("every settling round for each n", &exhaustive::settling_rounds),
         ("every reason of some runs for each n", &exhaustive::reasons),
+        ("every quote of some runs for each n, and every percentage", &exhaustive::quotes),
         ("every start near the limits", &exhaustive::starts),
-        ("speak and close near the limits", &exhaustive::states),
+        ("speak, close and price near the limits", &exhaustive::states),
         ("random tickets and calls", &random_part),
     ];
     for (name, part) in parts {
