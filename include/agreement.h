@@ -86,9 +86,10 @@
  *   overhead       1,234.5, rounded to 1,235, makes 13,580
  *   markup         679, rounded to 679, makes 14,259, at which the line is quoted
  *
- * Every number is of 64 bits and none is ever cut: the largest quote is UC_LARGEST_QUOTE. Any two processes that decided
- * under one ticket quote the same penny for the same lines. The ticket above quotes by 0000000A, a markup of 0.1 %: its
- * processes 2, 3 and 4 quote 100,100 for a line of 100,000, and process 1, which crashed, gives no quote.
+ * Costs, how many there are, process and quote are numbers of 64 bits, and none is ever cut; the largest quote is
+ * UC_LARGEST_QUOTE. Any two processes that decided under one ticket quote the same penny for the same lines. The ticket
+ * above quotes by 0000000A, a markup of 0.1 %: its processes 2, 3 and 4 quote 100,100 for a line of 100,000, and process 1,
+ * which crashed, gives no quote.
  *
  * The program `simulate` writes a refusal as one line, 1F number line(2), and uc_run answers it: see UC_REFUSALS.
  *
@@ -128,7 +129,8 @@
  *      refused with 11. It sends nothing more, and frames to it are dropped, by the switch or else by its host, as those to
  *      one that has crashed. By its state a decided part may price (uc_price), as often as its host likes.
  *   9. A process that stops, for whatever reason, stays out. One that a host cannot go on with counts as crashed: after a
- *      refusal 12 it must not be closed on nothing instead, and a state read back after a loss of power is not used.
+ *      refusal 12 it must not be closed on nothing instead, and a state read back after a loss of power neither speaks nor
+ *      closes. One that has decided may still price: what is decided stays so.
  *
  *   One round of one process, in a host of its own (send, sent, heard_in, stop and decided are the
  *   host's):
@@ -454,7 +456,7 @@ uint64_t uc_reasons(const uint8_t *ticket, size_t ticket_len, uint8_t *reasons, 
  *
  *   ticket, ticket_len   the ticket's text
  *   costs, cost_count    the direct cost of each tender line, in pence: 1 to UC_MOST_COSTS lines, each from 0 to
- *                        UC_HIGHEST_COST
+ *                        UC_HIGHEST_COST; cost_count numbers can be read there, also where that is more than are quoted
  *   process              from 1 to n
  *   quote                where the quote goes: one number, which must not be one of the costs
  *
@@ -506,13 +508,13 @@ uint64_t uc_close(uint8_t *state, size_t state_len, const uint8_t *heard, size_t
  *   costs, cost_count   the direct cost of each tender line, as for uc_quote
  *   quote               where the quote goes, as for uc_quote
  *
- * Answers 0, and *quote is the quote in pence by the value in the state, which is decided. Or a refusal, with *quote
+ * Answers 0, and *quote is the quote in pence by the value that the state has decided. Or a refusal, with *quote
  * unchanged: 10, not nine bytes or not a valid state; 14, no tender lines or more than UC_MOST_COSTS; 15, a direct cost above
  * UC_HIGHEST_COST, in whichever tender line; 16, the process has not decided (its mark is 00 or 02); looked for in this
  * order. The state and the costs are never changed.
  *
- * Any two parts of one run that have decided give the same penny for the same costs, as long as their hosts do what THE
- * HOST'S OBLIGATIONS says, one that has since lost power among them; and each gives what uc_quote gives for its process on
+ * Any two parts of one run give the same penny for the same costs, whenever each has decided, as long as their hosts do what
+ * THE HOST'S OBLIGATIONS says, one that has since lost power among them; and each gives what uc_quote gives for its process on
  * the ticket of that run.
  */
 uint64_t uc_price(const uint8_t *state, size_t state_len, const uint64_t *costs, size_t cost_count, uint64_t *quote);

@@ -15,6 +15,7 @@ pub mod RoomClaim
 pub mod IdleClaim
 pub mod SettlingClaim
 pub mod ReasonClaim
+pub mod PriceAnswered
 pub mod QuoteClaim
 pub mod ResultInCapitals
 pub mod LettersClaim

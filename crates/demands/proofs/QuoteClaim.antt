@@ -6,11 +6,12 @@ use Prim.Native.Nat.{ℕ, _-_, _^_, _≤_, _<_}
 use native.Mathlib.Omega.{arith}
 use borrow.Author.Tests.{ne-eqb, eqb-true, eqb-false, leb-true, le-leb}
 use lib.Dec.{eqb, leb}
+use Rattle.general.specs.BigEndian.{number}
 use Rattle.general.proofs.Tests.{both}
 use Rattle.consensus.specs.Instance.{Instance, proposalOf}
 use Rattle.consensus.specs.State.{State, undecided, decided, crashed}
 use Rattle.consensus.specs.Consensus.{IsProcess, Decides, Validity, CrashesNoOther, CrashesUndecided}
-use Rattle.coordinator.specs.Run.{endOf, latestOf}
+use Rattle.coordinator.specs.Run.{lastRound, endOf, latestOf}
 use Rattle.coordinator.specs.WellFormed.{WellFormed}
 use Rattle.consensus.proofs.SameEnds.{SameEnds}
 use Rattle.coordinator.proofs.Consensus.{uniform-consensus}
@@ -30,17 +31,18 @@ use Rattle.pricing.proofs.Largest.{largest}
 use Rattle.pricing.proofs.UniformQuotes.{uniform-quotes}
 use Rattle.part_format.specs.PartState.{stateRefusal, ValidBytes}
 use Rattle.part_format.proofs.ValidBytes.{valid-taken}
-use Rattle.part_host.specs.Part.{up, bytesKept}
-use Rattle.part_host.specs.Host.{endPartOf}
+use Rattle.part_host.specs.Part.{up, partOf, bytesKept}
+use Rattle.part_host.specs.Host.{partsTo, endPartOf}
 use Rattle.part_host.specs.PartEnds.{stateByPart, endByPart}
 use Rattle.part_host.proofs.PartsConsensus.{parts-consensus}
-use Rattle.part_host.proofs.Kept.{kept-decided, kept-crashed}
+use Rattle.part_host.proofs.Kept.{kept-decided, kept-crashed, kept-since}
 use Rattle.pricing_format.specs.Quoting.{quotedOr16, ofLines, quoteIn, quoting}
 use Rattle.pricing_format.specs.OwnQuote.{ownQuote}
-use Rattle.pricing_format.specs.QuoteCall.{placeAfter, quoteCode, QuoteCall, PriceCall}
+use Rattle.pricing_format.specs.QuoteCall.{placeAfter, quoteCode, QuoteCall}
 use Rattle.pricing_format.proofs.QuotesApart.{quotes-apart}
 use Rattle.quotes.specs.Answer.{quoteOfAnswer}
-use Rattle.demands.specs.QuoteClaim.{QuoteAnswered, quoted, noProcess, QuoteClaim}
+use Rattle.demands.specs.QuoteClaim.{QuoteAnswered, noProcess, QuoteClaim}
+use Rattle.demands.proofs.PriceAnswered.{price-answered, not-accepted, own-decision, price-quoted, price-most}
 use Rattle.demands.proofs.Demand3.{demand-3, ends-said}
 
 -- The answers.
@@ -85,7 +87,7 @@ module _ (text costs : List ℕ) (p : ℕ) where
   quote-answered before after code call = by-case (quoting text costs p) quote-case (call .answered) (call .place)
     where
       by-case : (a : Reading ℕ) → QuoteCase text costs p a → code ≡ quoteCode a → after ≡ placeAfter a before → QuoteAnswered text costs p before after code
-      by-case _ (quote x r v read lines decides) e f = quoted x r v read lines decides e f
+      by-case _ (quote x r v read lines decides) e f = QuoteAnswered.quoted x r v read lines decides e f
       by-case _ (absent x read lines outside) e f = noProcess x read lines outside e f
       by-case _ (dark x r read lines crash) e f = QuoteAnswered.crashes x r read lines crash e f
       by-case _ (unpriced x number read wrong) e f = QuoteAnswered.lines x number read wrong e f
@@ -100,9 +102,6 @@ record Decision (text costs : List ℕ) (p pence : ℕ) : Type 0 where
   pub lines : Priced costs
   pub decides : Decides instance (endOf instance) p round value
   pub price : priceOf value costs ≡ pence
-
-not-accepted : (number line pence : ℕ) → _≡_ {A = Reading ℕ} (refused number line) (accepted pence) → ⊥
-not-accepted number line pence e = let z : _≡_ {A = ℕ} 0 1 = cc in let w : ⊥ = omega arith in w
 
 decision : (text costs : List ℕ) (p pence : ℕ) → quoting text costs p ≡ accepted pence → Decision text costs p pence
 decision text costs p pence e = by-case (quoting text costs p) (quote-case text costs p) e
@@ -132,7 +131,7 @@ module _ (text : List ℕ) (x : Instance) (read : readTicket text ≡ accepted x
     quotes pence e =
         let known = decision text costs p pence e in
         let same : known .instance ≡ x = accepted-same (sym (known .read) ∙ read) in
-        rw (← known .price) (rounds .byDecision costs p _ _ (rw same at (known .decides)))
+        rw (← known .price) (rounds .byDecision costs p _ _ (known .lines) (rw same at (known .decides)))
 
     -- By the nine bytes of its part a process quotes as by its end.
     kept-quote : IsProcess x p → (s : State) → endOf x p ≡ s
@@ -146,18 +145,15 @@ module _ (text : List ℕ) (x : Instance) (read : readTicket text ≡ accepted x
         let (valid, (v, says)) = kept-crashed x formed p r (record { isProcess = process; state = e }) in
         (valid, rw says refl)
 
+    quoting-in : IsProcess x p → quoting text costs p ≡ ofLines costs (quotedOr16 (quoteBy (endOf x p) costs))
+    unfolding quoting quoteIn
+    quoting-in process = rw (read, le-leb 1 p (process .first), le-leb p (x .processes) (process .last)) refl
+
     own : IsProcess x p → ownQuote (bytesKept (endPartOf x p)) costs ≡ quoting text costs p
-    unfolding ownQuote quoting quoteIn
+    unfolding ownQuote
     own process =
         let (valid, same) = kept-quote process (endOf x p) refl in
-        rw (
-          ne-eqb (stateRefusal (bytesKept (endPartOf x p))) 10 (valid-taken (bytesKept (endPartOf x p)) valid),
-          same,
-          read,
-          le-leb 1 p (process .first),
-          le-leb p (x .processes) (process .last),
-        )
-        refl
+        rw (ne-eqb (stateRefusal (bytesKept (endPartOf x p))) 10 (valid-taken (bytesKept (endPartOf x p)) valid), same) (sym (quoting-in process))
 
 -- Two quotes for one text.
 module _ (text costs : List ℕ) (p q a b : ℕ) (first : quoting text costs p ≡ accepted a) (second : quoting text costs q ≡ accepted b) where
@@ -178,12 +174,18 @@ call-quoted text costs p before after call =
     let left : after ≡ pence = rw e at (call .place) in
     e ∙ ap accepted (sym left)
 
-price-quoted : (state costs : List ℕ) (before after : ℕ) → PriceCall state costs before after 0 → ownQuote state costs ≡ accepted after
-unfolding placeAfter
-price-quoted state costs before after call =
-    let (pence, e) = quotes-apart .ofStates state costs .isQuoted (sym (call .answered)) in
-    let left : after ≡ pence = rw e at (call .place) in
-    e ∙ ap accepted (sym left)
+called-quote : (text costs : List ℕ) (p before after : ℕ) → quoting text costs p ≡ accepted after → QuoteCall text costs p before after 0
+unfolding codeOf placeAfter
+called-quote text costs p before after e = record { answered = rw e refl; place = rw e refl }
+
+-- A part that prices after some rounds.
+module _ (text : List ℕ) (x : Instance) (read : readTicket text ≡ accepted x) (costs : List ℕ) (r p pence : ℕ) (process : IsProcess x p) (within : r ≤ lastRound x) where
+  meanwhile : ownQuote (bytesKept (partOf (partsTo x r) p)) costs ≡ accepted pence → quoting text costs p ≡ accepted pence
+  unfolding quoting quoteIn ofLines quotedOr16 quoteBy
+  meanwhile e =
+      let known = own-decision (bytesKept (partOf (partsTo x r) p)) costs pence e in
+      let ended = kept-since x (formed text x read) r p _ _ within process (known .says) in
+      rw (read, priced-lines .taken costs (known .lines), le-leb 1 p (process .first), le-leb p (x .processes) (process .last), ended, known .price) refl
 
 -- A decided value is a rate set of four bytes, so that no quote is above the largest.
 rates-low : (x : Instance) → WellFormed x → (p r v : ℕ) → Decides x (endOf x) p r v → v ≤ highestRates
@@ -204,22 +206,23 @@ unfolding quoteOfAnswer QuotesOfConsensus SameEnds
 quote-claim =
     record {
       answered = quote-answered;
+      priced = price-answered;
       rounds = rounds;
       given = λ text costs p q a b first second. same-penny text costs p q a b (sym first) (sym second);
       called = λ text costs p q before before′ after after′ first second.
           same-penny text costs p q after after′ (call-quoted text costs p before after first) (call-quoted text costs q before′ after′ second);
       outputs = λ text x out ends counts wrote says. uniform-quotes _ x ends (demand-3 .outputs .consensus text x out ends counts wrote says);
-      byOutput = λ text x out ends counts costs p before after wrote says call.
-          let quote = quotes text x (wrote .read) costs p after (call-quoted text costs p before after call) in
-          record {
-            process = quote .process;
-            quoted = ap (λ (s : State). quoteBy s costs) (sym (ends-said text x out ends counts wrote says p (quote .process))) ∙ quote .quoted;
-          };
+      byOutput = λ text x out ends counts costs p wrote says process.
+          quoting-in text x (wrote .read) costs p process
+          ∙ ap (λ (s : State). ofLines costs (quotedOr16 (quoteBy s costs))) (ends-said text x out ends counts wrote says p process);
       parts = λ text x read. uniform-quotes _ x (endByPart x) (parts-consensus x (accepted-well-formed text x read));
       own = λ text x costs p read process. own text x read costs p process;
-      ownCalled = λ text x costs p q before before′ after after′ read process process′ first second.
+      meanwhile = λ text x costs r p before after read process within call. called-quote text costs p before after
+          (meanwhile text x read costs r p after process within (price-quoted (bytesKept (partOf (partsTo x r) p)) costs before after call));
+      ownCalled = λ text x costs r s p q before before′ after after′ read process process′ within within′ first second.
           same-penny text costs p q after after′
-          (sym (own text x read costs p process) ∙ price-quoted (bytesKept (endPartOf x p)) costs before after first)
-          (sym (own text x read costs q process′) ∙ price-quoted (bytesKept (endPartOf x q)) costs before′ after′ second);
+          (meanwhile text x read costs r p after process within (price-quoted (bytesKept (partOf (partsTo x r) p)) costs before after first))
+          (meanwhile text x read costs s q after′ process′ within′ (price-quoted (bytesKept (partOf (partsTo x s) q)) costs before′ after′ second));
+      mostPriced = λ state costs before after valid call. price-most state costs after valid (price-quoted state costs before after call);
       most = λ text costs p before after call. quote-most text costs p after (call-quoted text costs p before after call);
     }

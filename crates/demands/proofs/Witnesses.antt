@@ -52,13 +52,24 @@ use Rattle.reasons.specs.Answer.{reasonOfAnswer}
 use Rattle.demands.specs.OutputSays.{isProcessLine, sentIn, sentFrom, lineAt, sentSaid, countsOf}
 use Rattle.demands.specs.Written.{Wrote}
 use Rattle.demands.specs.PairedTexts.{CommitLine, PairedTexts, noLines, sameLine, countNoLower, missingLine}
+use Rattle.general.proofs.Bytes.{Bytes, bytes-each}
+use Rattle.part_format.specs.PartState.{stateBytes, stateFrom, identityValid, roundValid, fieldsValid, stateValid, stateRefusal, isOwnRound}
+use Rattle.part_format.specs.Frame.{dataFrame, commitFrame, framesOf, isDataFrame, isCommitFrame, messagesFrom, heardBy}
+use Rattle.part_format.specs.Start.{startRefusal, startState, startBytes}
+use Rattle.part_format.specs.Speak.{spokenBy, speakRefusal, speakYields}
+use Rattle.part_format.specs.Close.{stateAfter, closedOn, closeOnHeard, closeState}
+use Rattle.part_host.specs.Part.{partOf, bytesKept, isOpen, outputRoom, yielded}
+use Rattle.part_host.specs.PartEnds.{stateByPart}
+use Rattle.part_host.specs.Hearing.{bytesReaching, reachFrom, letThrough, heardFrom, heard}
+use Rattle.part_host.specs.Host.{blank, startedParts, partAfter, partsAfter, partsTo}
+use Rattle.pricing_format.specs.OwnQuote.{ownQuote}
 use Rattle.pricing.specs.Price.{overheadOf, markupOf, nearest, withRate, linePrice, priceOf}
 use Rattle.pricing.specs.Quote.{anyAbove, linesRefusal, quoteBy}
 use Rattle.pricing_format.specs.Quoting.{quotedOr16, ofLines, quoteIn, quoting}
 use Rattle.pricing_format.specs.QuoteCall.{placeAfter, refusalNumber, QuoteCall}
 use Rattle.quotes.specs.Answer.{quoteOfAnswer}
 use Rattle.demands.proofs.QuoteClaim.{quote-claim}
-use Rattle.demands.specs.Witnesses.{crashText, mixedText, moreCommitsText, noCrashText, laterText, silentText, PairMet, RunMet, SentMet, SettledMet, ReasonMet, CrashMet, ReasonsMet, QuoteMet, sentAs, Witnesses}
+use Rattle.demands.specs.Witnesses.{crashText, mixedText, moreCommitsText, noCrashText, laterText, silentText, PairMet, RunMet, SentMet, SettledMet, ReasonMet, CrashMet, ReasonsMet, QuoteMet, PricedMeanwhile, sentAs, Witnesses}
 use Rattle.demands.proofs.Demand2.{demand-2}
 use Rattle.demands.proofs.LettersClaim.{run-met-alike, letters-claim}
 
@@ -293,6 +304,41 @@ quoted-mixed =
     let same : quoting mixedText oneLine 2 ≡ accepted 100100 = ap (quoteIn oneLine 2) (sym alike) ∙ crash-quotes .0 in
     record { answered = rw same refl; place = rw same refl }
 
+-- The nine bytes of processes 4 and 2 after round 1.
+abbrev decidedState : List ℕ
+decidedState = 4 ∷ 4 ∷ 2 ∷ 1 ∷ 1 ∷ 0 ∷ 0 ∷ 0 ∷ 10 ∷ []
+
+abbrev openState : List ℕ
+openState = 2 ∷ 4 ∷ 2 ∷ 2 ∷ 0 ∷ 0 ∷ 0 ∷ 0 ∷ 10 ∷ []
+
+decided-bytes : bytesKept (partOf (partsTo crash 1) 4) ≡ decidedState
+unfolding four number numberFrom bytesOf mapFrom withinLimits faultOf sends receives amongFirst reachAt reachIn crashesIn stateBytes stateFrom identityValid roundValid fieldsValid stateValid stateRefusal isOwnRound dataFrame commitFrame framesOf isDataFrame isCommitFrame messagesFrom startRefusal startState startBytes spokenBy speakRefusal speakYields heardBy stateAfter closedOn closeOnHeard closeState isOpen outputRoom yielded bytesReaching reachFrom letThrough heardFrom heard blank startedParts partAfter partsAfter partsTo partOf bytesKept
+decided-bytes = refl
+
+open-bytes : bytesKept (partOf (partsTo crash 1) 2) ≡ openState
+unfolding four number numberFrom bytesOf mapFrom withinLimits faultOf sends receives amongFirst reachAt reachIn crashesIn stateBytes stateFrom identityValid roundValid fieldsValid stateValid stateRefusal isOwnRound dataFrame commitFrame framesOf isDataFrame isCommitFrame messagesFrom startRefusal startState startBytes spokenBy speakRefusal speakYields heardBy stateAfter closedOn closeOnHeard closeState isOpen outputRoom yielded bytesReaching reachFrom letThrough heardFrom heard blank startedParts partAfter partsAfter partsTo partOf bytesKept
+open-bytes = refl
+
+own-quotes : (ownQuote decidedState oneLine ≡ accepted 100100) × (ownQuote openState oneLine ≡ refused 16 0)
+unfolding number numberFrom withinLimits stateFrom identityValid roundValid fieldsValid stateValid stateRefusal stateByPart ownQuote ofLines quotedOr16 linesRefusal anyAbove quoteBy overheadOf markupOf nearest withRate linePrice priceOf
+own-quotes = (refl, refl)
+
+quoted-meanwhile : PricedMeanwhile crashText oneLine 1 4 2 100100
+unfolding placeAfter refusalNumber four withinLimits stateFrom identityValid roundValid fieldsValid stateValid member mapFrom faultOf arriving getsData getsCommit sends receives amongFirst reachAt reachIn reach stateOf crashesIn sentBy received afterOutcome after statesAfter isUndecided anyUndecided speaks carries carriedIn dataIn commitsIn initial withRound runTo runOf
+quoted-meanwhile =
+    let quote = ap (λ (b : List ℕ). ownQuote b oneLine) decided-bytes ∙ own-quotes .0 in
+    let refusal = ap (λ (b : List ℕ). ownQuote b oneLine) open-bytes ∙ own-quotes .1 in
+    let bytes : Bytes decidedState = bytes-each decidedState (omega arith, (omega arith, (omega arith, (omega arith, (omega arith, (omega arith, (omega arith, (omega arith, (omega arith, tt))))))))) in
+    record {
+      instance = crash;
+      read = texts-read .0;
+      process = fourth;
+      before = omega arith;
+      priced = record { answered = rw quote refl; place = rw quote refl };
+      waits = record { answered = rw refusal refl; place = rw refusal refl };
+      valid = rw decided-bytes (record { nine = refl; bytes = bytes; valid = refl });
+    }
+
 not-quoted : QuoteCall crashText oneLine 1 7 7 (refusalCode 16 0)
 unfolding codeOf placeAfter
 not-quoted = record { answered = rw (crash-quotes .2) refl; place = rw (crash-quotes .2) refl }
@@ -324,6 +370,7 @@ witnesses =
       quotedEarlier = quote-met 4 fourth (crash-quotes .1);
       quotedMixed = quoted-mixed;
       notQuoted = not-quoted;
+      quotedMeanwhile = quoted-meanwhile;
       short = short;
       fits = fits;
     }

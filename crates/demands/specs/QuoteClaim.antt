@@ -7,7 +7,7 @@ use Prim.Native.Nat.{ℕ, _≤_}
 use Rattle.consensus.specs.Instance.{Instance}
 use Rattle.consensus.specs.State.{State}
 use Rattle.consensus.specs.Consensus.{IsProcess, Decides, CrashesUndecided}
-use Rattle.coordinator.specs.Run.{endOf}
+use Rattle.coordinator.specs.Run.{lastRound, endOf}
 use Rattle.formats.specs.Reading.{accepted}
 use Rattle.formats.specs.Ticket.{readTicket}
 use Rattle.formats.specs.FirstWrong.{FirstWrong}
@@ -15,11 +15,13 @@ use Rattle.formats.specs.Code.{refusalCode}
 use Rattle.pricing.specs.Price.{priceOf}
 use Rattle.pricing.specs.PricedLines.{Priced, Unpriced}
 use Rattle.pricing.specs.Largest.{largestQuote}
-use Rattle.pricing.specs.UniformQuotes.{Quotes, UniformQuotes}
-use Rattle.part_host.specs.Part.{bytesKept}
-use Rattle.part_host.specs.Host.{endPartOf}
+use Rattle.pricing.specs.UniformQuotes.{UniformQuotes}
+use Rattle.pricing.specs.Quote.{quoteBy}
+use Rattle.part_format.specs.PartState.{stateFrom, markDecided, stateRefusal, ValidBytes}
+use Rattle.part_host.specs.Part.{partOf, bytesKept}
+use Rattle.part_host.specs.Host.{partsTo, endPartOf}
 use Rattle.part_host.specs.PartEnds.{endByPart}
-use Rattle.pricing_format.specs.Quoting.{quoting}
+use Rattle.pricing_format.specs.Quoting.{quotedOr16, ofLines, quoting}
 use Rattle.pricing_format.specs.OwnQuote.{ownQuote}
 use Rattle.pricing_format.specs.QuoteCall.{QuoteCall, PriceCall}
 use Rattle.quotes.specs.Answer.{quoteOfAnswer}
@@ -43,26 +45,41 @@ pub data QuoteAnswered (text costs : List ℕ) (p before after code : ℕ) : Typ
   -- 1 to 8
   refusal : (number line : ℕ) → FirstWrong text number line → code ≡ refusalCode number line → after ≡ before → QuoteAnswered text costs p before after code
 
+-- The same of the call that takes nine bytes: of a state that has decided the price by its value; else a refusal, 10 where they are no valid state, 14 and 15 for
+-- the lines, and 16 where the state has not decided.
+pub data PriceAnswered (state costs : List ℕ) (before after code : ℕ) : Type 0 where
+  quoted : (stateRefusal state ≡ 10 → ⊥) → Priced costs → stateFrom state .mark ≡ markDecided → code ≡ 0 → after ≡ priceOf (stateFrom state .value) costs
+      → PriceAnswered state costs before after code
+  notDecided : (stateRefusal state ≡ 10 → ⊥) → Priced costs → (stateFrom state .mark ≡ markDecided → ⊥) → code ≡ 16 → after ≡ before
+      → PriceAnswered state costs before after code
+  lines : (number : ℕ) → (stateRefusal state ≡ 10 → ⊥) → Unpriced costs number → code ≡ number → after ≡ before → PriceAnswered state costs before after code
+  noState : stateRefusal state ≡ 10 → code ≡ 10 → after ≡ before → PriceAnswered state costs before after code
+
 pub record QuoteClaim : Type 0 where
   -- every text, list of costs, process and place gets its answer
   pub answered : (text costs : List ℕ) (p before after code : ℕ) → QuoteCall text costs p before after code → QuoteAnswered text costs p before after code
+  pub priced : (state costs : List ℕ) (before after code : ℕ) → PriceCall state costs before after code → PriceAnswered state costs before after code
   -- any two that decided quote the same penny for the same lines: in the rounds, by the library's own contract and by the C call's
   pub rounds : (text : List ℕ) (x : Instance) → readTicket text ≡ accepted x → UniformQuotes x (endOf x)
   pub given : (text costs : List ℕ) (p q a b : ℕ) → quoteOfAnswer (Quote a) ≡ quoting text costs p → quoteOfAnswer (Quote b) ≡ quoting text costs q → a ≡ b
   pub called : (text costs : List ℕ) (p q before before′ after after′ : ℕ) → QuoteCall text costs p before after 0 → QuoteCall text costs q before′ after′ 0
       → after ≡ after′
-  -- by the bytes of a result, wherever running writes one; and these say what the call answers
+  -- by the bytes of a result, wherever running writes one; and by what they say of a process the call answers, a quote or a refusal
   pub outputs : (text : List ℕ) (x : Instance) (out : List ℕ) (ends : ℕ → State) (counts : Counts) → Wrote text x out → OutputSays x out ends counts
       → UniformQuotes x ends
-  pub byOutput : (text : List ℕ) (x : Instance) (out : List ℕ) (ends : ℕ → State) (counts : Counts) (costs : List ℕ) (p before after : ℕ)
-      → Wrote text x out → OutputSays x out ends counts → QuoteCall text costs p before after 0 → Quotes x ends costs p after
+  pub byOutput : (text : List ℕ) (x : Instance) (out : List ℕ) (ends : ℕ → State) (counts : Counts) (costs : List ℕ) (p : ℕ)
+      → Wrote text x out → OutputSays x out ends counts → IsProcess x p → quoting text costs p ≡ ofLines costs (quotedOr16 (quoteBy (ends p) costs))
   -- by the nine bytes of the process parts
   pub parts : (text : List ℕ) (x : Instance) → readTicket text ≡ accepted x → UniformQuotes x (endByPart x)
-  -- a part that prices by its own nine bytes answers what the ticket's call does for its process, a quote or a refusal; and so any two quote alike
+  -- a part that prices by its own nine bytes when the run is over answers what the ticket's call does for its process, a quote or a refusal
   pub own : (text : List ℕ) (x : Instance) (costs : List ℕ) (p : ℕ) → readTicket text ≡ accepted x → IsProcess x p
       → ownQuote (bytesKept (endPartOf x p)) costs ≡ quoting text costs p
-  pub ownCalled : (text : List ℕ) (x : Instance) (costs : List ℕ) (p q before before′ after after′ : ℕ) → readTicket text ≡ accepted x
-      → IsProcess x p → IsProcess x q → PriceCall (bytesKept (endPartOf x p)) costs before after 0 → PriceCall (bytesKept (endPartOf x q)) costs before′ after′ 0
-      → after ≡ after′
-  -- no quote is above the largest
+  -- one that prices before, after whichever rounds, and gets a quote, has the one that the ticket's call gives; and so any two, whenever they price, quote alike
+  pub meanwhile : (text : List ℕ) (x : Instance) (costs : List ℕ) (r p before after : ℕ) → readTicket text ≡ accepted x → IsProcess x p
+      → r ≤ lastRound x → PriceCall (bytesKept (partOf (partsTo x r) p)) costs before after 0 → QuoteCall text costs p before after 0
+  pub ownCalled : (text : List ℕ) (x : Instance) (costs : List ℕ) (r s p q before before′ after after′ : ℕ) → readTicket text ≡ accepted x
+      → IsProcess x p → IsProcess x q → r ≤ lastRound x → s ≤ lastRound x → PriceCall (bytesKept (partOf (partsTo x r) p)) costs before after 0
+      → PriceCall (bytesKept (partOf (partsTo x s) q)) costs before′ after′ 0 → after ≡ after′
+  -- no quote is above the largest, of a ticket or of nine bytes
   pub most : (text costs : List ℕ) (p before after : ℕ) → QuoteCall text costs p before after 0 → after ≤ largestQuote
+  pub mostPriced : (state costs : List ℕ) (before after : ℕ) → ValidBytes state → PriceCall state costs before after 0 → after ≤ largestQuote

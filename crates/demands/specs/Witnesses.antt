@@ -27,8 +27,9 @@ use Rattle.running.specs.Settling.{settlingOf}
 use Rattle.running.specs.declared.SettleAnswer.the-variants.{Round}
 use Rattle.reasons.specs.Answer.{reasonOfAnswer, Explained}
 use Rattle.reasons.specs.declared.ReasonAnswer.the-variants.{Reason}
-use Rattle.part_host.specs.Part.{bytesKept}
-use Rattle.part_host.specs.Host.{endPartOf}
+use Rattle.part_format.specs.PartState.{ValidBytes}
+use Rattle.part_host.specs.Part.{partOf, bytesKept}
+use Rattle.part_host.specs.Host.{partsTo, endPartOf}
 use Rattle.pricing_format.specs.Quoting.{quoting}
 use Rattle.pricing_format.specs.QuoteCall.{QuoteCall, PriceCall}
 use Rattle.quotes.specs.Answer.{quoteOfAnswer}
@@ -130,6 +131,17 @@ pub record QuoteMet (text costs : List ℕ) (p pence : ℕ) : Type 0 where
   pub called : QuoteCall text costs p 7 pence 0
   pub own : PriceCall (bytesKept (endPartOf instance p)) costs 7 pence 0
 
+-- A text is accepted; after rounds 1 to r of its run, behind which another comes, process p prices by the nine bytes that its host keeps then, and process q, whose
+-- state is open, is refused.
+pub record PricedMeanwhile (text costs : List ℕ) (r p q pence : ℕ) : Type 0 where
+  pub instance : Instance
+  pub read : readTicket text ≡ accepted instance
+  pub process : IsProcess instance p
+  pub before : r < runOf instance .rounds
+  pub priced : PriceCall (bytesKept (partOf (partsTo instance r) p)) costs 7 pence 0
+  pub waits : PriceCall (bytesKept (partOf (partsTo instance r) q)) costs 7 7 16
+  pub valid : ValidBytes (bytesKept (partOf (partsTo instance r) p))
+
 abbrev pub sentAs : (dataSent commitsSent : ℕ) → Option Sent
 sentAs dataSent commitsSent = some (record { dataSent = dataSent; commitsSent = commitsSent })
 
@@ -155,6 +167,8 @@ pub record Witnesses : Type 0 where
   pub quotedEarlier : QuoteMet crashText (100000 ∷ []) 4 100100
   pub quotedMixed : QuoteCall mixedText (100000 ∷ []) 2 7 100100 0
   pub notQuoted : QuoteCall crashText (100000 ∷ []) 1 7 7 (refusalCode 16 0)
+  -- after round 1 of two process 4 has decided, and prices by its nine bytes; process 2 is open, and cannot yet
+  pub quotedMeanwhile : PricedMeanwhile crashText (100000 ∷ []) 1 4 2 100100
   -- a buffer of 100 bytes is too short for it, and one of 101 is not
   pub short : RunCall crashText (replicate 100 165) (replicate 100 165) (refusalCode 9 0)
   pub fits : RunCall crashText (replicate 101 165) (textOf (case1 .output)) 101

@@ -44,7 +44,8 @@ ofWriting number = Within 1 9 number
 abbrev pub ofReason : ℕ → Type 0
 ofReason number = ofTicket number ⊎ (number ≡ 13)
 
--- Every refusal with a place is read off its code, and so is every answer of the four calls.
+-- Every refusal with a place is read off its code, and so is every answer of the four calls (of the fifth that takes a ticket, which quotes: `QuotesApart`,
+-- pricing_format/specs).
 pub record CodesApart : Type 0 where
   pub placed : (place number line : ℕ) → 1 ≤ number → number < refusalsFrom → line < refusalsFrom
       → TellsRefusal place number line (placedCode place number line)

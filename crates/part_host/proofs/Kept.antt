@@ -1,5 +1,5 @@
 -- The nine bytes that a host keeps of a part: at the end they are a valid state, and say of a process that decided that it has, and of one that crashed that it
--- has not (`kept-decided`, `kept-crashed`). For well-formed instances. Assumes nothing else.
+-- has not (`kept-decided`, `kept-crashed`); and where they say after some rounds that a process has decided, it ends so (`kept-since`). For well-formed instances. Assumes nothing else.
 use mathlib.Core.List.{List}
 use mathlib.Core.Path.{_≡_, refl, sym, ap, _∙_}
 use Prim.Native.Nat.{ℕ, suc, _≤_, _<_}
@@ -7,22 +7,23 @@ use native.Mathlib.Omega.{arith}
 use Rattle.consensus.specs.Instance.{Instance}
 use Rattle.consensus.specs.State.{State, undecided, decided, crashed}
 use Rattle.consensus.specs.Consensus.{IsProcess}
-use Rattle.coordinator.specs.Run.{lastRound}
+use Rattle.coordinator.specs.Run.{lastRound, endOf}
 use Rattle.coordinator.specs.WellFormed.{WellFormed}
-use Rattle.coordinator.proofs.Pointwise.{stateAt}
+use Rattle.coordinator.proofs.Pointwise.{stateAt, state-at}
+use Rattle.coordinator.proofs.History.{undecided-decided, decided-later}
 use Rattle.coordinator.proofs.Coordinator.{waits-below, decided-since}
 use Rattle.coordinator.proofs.Reason.{crashed-since}
 use Rattle.coordinator.proofs.Ends.{end-at}
 use Rattle.part_format.specs.PartState.{stateFrom, stateBytes, stateValid, markOpen, markDecided, ValidBytes}
 use Rattle.part_format.proofs.Valid.{within-valid}
 use Rattle.part_format.proofs.ValidBytes.{valid-bytes}
-use Rattle.part_host.specs.Part.{up, bytesKept}
-use Rattle.part_host.specs.Host.{endPartOf}
+use Rattle.part_host.specs.Part.{Part, up, crashedIn, partOf, bytesKept}
+use Rattle.part_host.specs.Host.{partsTo, endPartOf}
 use Rattle.part_host.specs.DecideAlike.{partState, partBytes, EndsAs}
 use Rattle.part_host.specs.PartEnds.{stateByPart, endByPart}
-use Rattle.part_host.proofs.Alike.{identity}
-use Rattle.part_host.proofs.DecideAlike.{parts-decide-alike}
-use Rattle.part_host.proofs.PartsConsensus.{ends-alike}
+use Rattle.part_host.proofs.Alike.{identity, Alike, bothOpen, bothOver, bothDecided, bothCrashed}
+use Rattle.part_host.proofs.DecideAlike.{parts-decide-alike, parts-alike}
+use Rattle.part_host.proofs.PartsConsensus.{part-says, ends-alike}
 
 -- An open part says that its process has not decided.
 open-undecided : (x : Instance) (p r v : ℕ) → stateByPart (up (partBytes x p r markOpen v)) ≡ undecided (stateFrom (partBytes x p r markOpen v) .value)
@@ -64,3 +65,29 @@ module _ (x : Instance) (formed : WellFormed x) where
       let (q, u, same, within, waiting, since) = crashed-since x (lastRound x) p r crashes in
       let valid = bytes-valid p q r markOpen (alike .estimate) process (omega arith) same (waits-below x q p u (process .first) waiting) (omega arith) in
       (rw bytes valid, (_, ap (λ (b : List ℕ). stateByPart (up b)) bytes ∙ open-undecided x p r (alike .estimate)))
+
+  -- The bytes of a part that has crashed are open.
+  crashed-open : (r p j : ℕ) (b : List ℕ) {s : State} {part : Part} → Alike x r p s part → part ≡ crashedIn j b → (v : ℕ) × (stateByPart (up b) ≡ undecided v)
+  crashed-open r p j b (bothOpen _) e = absurd (let z : _≡_ {A = ℕ} 0 1 = cc in let w : ⊥ = omega arith in w)
+  crashed-open r p j b (bothOver _) e = absurd (let z : _≡_ {A = ℕ} 0 1 = cc in let w : ⊥ = omega arith in w)
+  crashed-open r p j b bothDecided e = absurd (let z : _≡_ {A = ℕ} 0 1 = cc in let w : ⊥ = omega arith in w)
+  crashed-open r p j b (bothCrashed {i} {v} _) e =
+      let same : b ≡ partBytes x p (suc i) markOpen v = cc in
+      (_, ap (λ (c : List ℕ). stateByPart (up c)) same ∙ open-undecided x p (suc i) v)
+
+  -- What the bytes say after some rounds that a process has decided, it ends with.
+  pub kept-since : (r p i v : ℕ) → r ≤ suc (x .resilience) → IsProcess x p → stateByPart (up (bytesKept (partOf (partsTo x r) p))) ≡ decided i v
+      → endOf x p ≡ decided i v
+  unfolding bytesKept
+  kept-since r p i v within process says = by-part (partOf (partsTo x r) p) refl
+    where
+      by-part : (part : Part) → partOf (partsTo x r) p ≡ part → endOf x p ≡ decided i v
+      by-part (up b) e =
+          let known : stateByPart (partOf (partsTo x r) p) ≡ decided i v = ap stateByPart e ∙ (rw e at says) in
+          let state : stateAt x r p ≡ decided i v = sym (state-at x r p (omega arith) (process .first) (omega (arith, process .last, formed .all-propose)))
+          ∙ sym (part-says x formed r p within process) ∙ known in
+          end-at x formed p process ∙ decided-later x r (lastRound x) p i v within state
+      by-part (crashedIn j b) e =
+          let (u, open-says) = crashed-open r p j b (parts-alike x formed r p within process) e in
+          let told : stateByPart (up b) ≡ decided i v = rw e at says in
+          absurd (undecided-decided (stateByPart (up b)) u i v open-says told)

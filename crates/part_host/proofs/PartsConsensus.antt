@@ -33,7 +33,7 @@ says-state x r p (bothDecided {i} {v}) fits = simp (state-from-bytes (partState 
 says-state x r p (bothCrashed _) fits = refl
 
 module _ (x : Instance) (formed : WellFormed x) where
-  part-says : (r p : ℕ) → r ≤ suc (x .resilience) → IsProcess x p → stateByPart (partOf (partsTo x r) p) ≡ stateOf (runTo x r .states) p
+  pub part-says : (r p : ℕ) → r ≤ suc (x .resilience) → IsProcess x p → stateByPart (partOf (partsTo x r) p) ≡ stateOf (runTo x r .states) p
   part-says r p within process =
       says-state x r p (parts-alike x formed r p within process)
       (rw (state-at x r p (omega arith) (process .first) (omega arith)) (holds-fitting x formed r p))

@@ -12,6 +12,7 @@ price-cases =
       markups = refl;
       halves = refl;
       figures = refl;
+      halvesOfLines = refl;
       lines = refl;
       sums = refl;
       counted = refl;

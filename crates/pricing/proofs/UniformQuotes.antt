@@ -9,6 +9,7 @@ use Rattle.consensus.specs.State.{State, undecided, decided, crashed}
 use Rattle.consensus.specs.Consensus.{Decides, Agreement, Validity, Termination}
 use Rattle.pricing.specs.Price.{priceOf}
 use Rattle.pricing.specs.Quote.{quoteBy}
+use Rattle.pricing.specs.PricedLines.{Priced}
 use Rattle.pricing.specs.UniformQuotes.{Quotes, QuotesOfConsensus}
 
 -- Whose end gives a quote has decided.
@@ -19,9 +20,9 @@ quote-decided (decided r v) costs pence e = (r, v, refl, cc)
 quote-decided (crashed r) costs pence e = absurd (let z : _≡_ {A = ℕ} 0 1 = cc in let w : ⊥ = omega arith in w)
 
 module _ (x : Instance) (ends : ℕ → State) (costs : List ℕ) where
-  decider-quotes : (p r v : ℕ) → Decides x ends p r v → Quotes x ends costs p (priceOf v costs)
+  decider-quotes : Priced costs → (p r v : ℕ) → Decides x ends p r v → Quotes x ends costs p (priceOf v costs)
   unfolding quoteBy
-  decider-quotes p r v d = record { process = d .process; quoted = rw (d .state) refl }
+  decider-quotes lines p r v d = record { process = d .process; lines = lines; quoted = rw (d .state) refl }
 
   quoter-decides : (p pence : ℕ) → Quotes x ends costs p pence → (r : ℕ) × (v : ℕ) × Decides x ends p r v × (pence ≡ priceOf v costs)
   quoter-decides p pence q =
@@ -36,13 +37,13 @@ uniform-quotes latest x ends solved =
           let (r, v, decides, price) = quoter-decides x ends costs p a first in
           let (s, w, decides′, price′) = quoter-decides x ends costs q b second in
           price ∙ ap (λ (value : ℕ). priceOf value costs) (solved .agreement p q r s v w decides decides′) ∙ sym price′;
-      byDecision = λ costs p r v decides. decider-quotes x ends costs p r v decides;
+      byDecision = λ costs p r v lines decides. decider-quotes x ends costs lines p r v decides;
       onlyDeciders = λ costs p pence quotes. quoter-decides x ends costs p pence quotes;
       byProposal = λ costs p pence quotes.
           let (r, v, decides, price) = quoter-decides x ends costs p pence quotes in
           let (q, process, proposed) = solved .validity p r v decides in
           (q, process, price ∙ ap (λ (value : ℕ). priceOf value costs) (sym proposed));
-      everyOther = λ costs p process stays.
+      unlessCrashed = λ costs p lines process stays.
           let (r, v, decides) = solved .termination p process stays in
-          (priceOf v costs, decider-quotes x ends costs p r v decides);
+          (priceOf v costs, decider-quotes x ends costs lines p r v decides);
     }

@@ -29,6 +29,9 @@ pub record Largest : Type 0 where
   pub markupProduct : (value cost : ℕ) → value ≤ highestRates → cost ≤ highestCost
       → withRate cost (overheadOf value) * markupOf value + 5000 < 500000000000000
   pub line : (value cost : ℕ) → value ≤ highestRates → cost ≤ highestCost → linePrice value cost ≤ highestPrice
+  -- so high are the sum and the price of a line
+  pub sumMet : withRate highestCost highestRate ≡ highestSum
+  pub priceMet : linePrice highestRates highestCost ≡ highestPrice
   -- of all lines that are priced
   pub quote : (value : ℕ) (costs : List ℕ) → value ≤ highestRates → linesRefusal costs ≡ 0 → priceOf value costs ≤ largestQuote
   -- which is met

@@ -34,6 +34,10 @@ pub record PriceCases : Type 0 where
   pub halves : map nearest (0 ∷ 4999 ∷ 5000 ∷ 5001 ∷ 9999 ∷ 10000 ∷ 14999 ∷ 15000 ∷ 24999 ∷ 25000 ∷ []) ≡ 0 ∷ 0 ∷ 1 ∷ 1 ∷ 1 ∷ 1 ∷ 1 ∷ 2 ∷ 2 ∷ 3 ∷ []
   -- the figures of the request: 12,345 at 14,259, and 5 at 6; 0000000A has 0.1 % of markup alone, and makes 100,000 to 100,100
   pub figures : linePrice tenAndFive 12345 ∷ linePrice tenAndFive 5 ∷ linePrice 10 100000 ∷ [] ≡ 14259 ∷ 6 ∷ 100100 ∷ []
+  -- half a penny of overhead and of markup goes up, a ten-thousandth less goes down: 50 % and 49.99 % of a penny, and 50 % of 5 pence; and by 03E801F4 the
+  -- markup on 9 pence, with overhead 10, is half a penny
+  pub halvesOfLines : linePrice 327680000 1 ∷ linePrice 327614464 1 ∷ linePrice 327680000 5 ∷ linePrice 5000 1 ∷ linePrice 4999 1 ∷ linePrice 5000 5
+      ∷ linePrice tenAndFive 9 ∷ [] ≡ 2 ∷ 1 ∷ 8 ∷ 2 ∷ 1 ∷ 8 ∷ 11 ∷ []
   -- with the rates changed for each other it is a penny less; no cost, no rates, overhead alone, and the highest rates on a penny
   pub lines : linePrice fiveAndTen 12345 ∷ linePrice tenAndFive 0 ∷ linePrice 0 12345 ∷ linePrice 65536000 12345 ∷ linePrice 4294967295 1 ∷ []
       ≡ 14258 ∷ 0 ∷ 12345 ∷ 13580 ∷ 60 ∷ []

@@ -12,4 +12,4 @@ use Rattle.pricing_format.specs.OwnCases.{second, fourth, OwnCases}
 
 pub own-cases : OwnCases
 unfolding number numberFrom withinLimits overheadOf markupOf nearest withRate linePrice priceOf anyAbove linesRefusal quoteBy stateFrom identityValid roundValid fieldsValid stateValid stateRefusal stateByPart quotedOr16 ofLines ownQuote second fourth
-own-cases = record { quoted = refl; noState = refl; first = refl }
+own-cases = record { quoted = refl; noState = refl; stateFirst = refl; linesNext = refl }

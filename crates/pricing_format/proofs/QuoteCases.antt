@@ -40,6 +40,7 @@ quote-cases =
       allQuote = refl;
       largest = refl;
       before14 = refl;
+      before15 = refl;
       codes = refl;
       numbers = refl;
       place = refl;

@@ -26,7 +26,10 @@ pub record OwnCases : Type 0 where
   pub noState : quotesOn (5 ∷ []) ([] ∷ (2 ∷ 4 ∷ 2 ∷ 1 ∷ 1 ∷ 3 ∷ 232 ∷ 1 ∷ []) ∷ (2 ∷ 4 ∷ 2 ∷ 1 ∷ 1 ∷ 3 ∷ 232 ∷ 1 ∷ 244 ∷ 0 ∷ [])
       ∷ second 2 3 ∷ second 3 1 ∷ fourth 2 2 ∷ [])
       ≡ refused 10 0 ∷ refused 10 0 ∷ refused 10 0 ∷ refused 10 0 ∷ refused 10 0 ∷ refused 10 0 ∷ []
-  -- 10 comes before 14 and 15, these before 16, and 14 before 15
-  pub first : ownQuote [] [] ∷ ownQuote [] (1000000001 ∷ []) ∷ ownQuote (second 2 0) [] ∷ ownQuote (second 2 0) (1000000001 ∷ [])
+  -- 10 comes before 14 and 15, be it for the length or for a mark
+  pub stateFirst : ownQuote [] [] ∷ ownQuote [] (1000000001 ∷ []) ∷ ownQuote (second 2 3) [] ∷ ownQuote (second 2 3) (1000000001 ∷ []) ∷ []
+      ≡ refused 10 0 ∷ refused 10 0 ∷ refused 10 0 ∷ refused 10 0 ∷ []
+  -- these before 16, be the state open or over, and 14 before 15
+  pub linesNext : ownQuote (second 2 0) [] ∷ ownQuote (second 2 0) (1000000001 ∷ []) ∷ ownQuote (fourth 3 2) [] ∷ ownQuote (fourth 3 2) (1000000001 ∷ [])
       ∷ ownQuote (second 2 1) (replicate 201 1000000001) ∷ ownQuote (second 2 1) (0 ∷ 1000000001 ∷ []) ∷ []
-      ≡ refused 10 0 ∷ refused 10 0 ∷ refused 14 0 ∷ refused 15 0 ∷ refused 14 0 ∷ refused 15 0 ∷ []
+      ≡ refused 14 0 ∷ refused 15 0 ∷ refused 14 0 ∷ refused 15 0 ∷ refused 14 0 ∷ refused 15 0 ∷ []

@@ -71,6 +71,8 @@ pub record QuoteCases : Type 0 where
   -- a refused text has its own refusal, whatever is asked for: 14 to 16 come after 1 to 8
   pub before14 : map (λ (row : RefusalRow). quoting (row .text) [] 0) refusalRows
       ≡ refused 1 0 ∷ refused 2 1 ∷ refused 3 2 ∷ refused 4 1 ∷ refused 5 3 ∷ refused 6 8 ∷ refused 7 6 ∷ refused 8 6 ∷ refused 2 67 ∷ []
+  pub before15 : map (λ (row : RefusalRow). quoting (row .text) (1000000001 ∷ []) 1) refusalRows
+      ≡ refused 1 0 ∷ refused 2 1 ∷ refused 3 2 ∷ refused 4 1 ∷ refused 5 3 ∷ refused 6 8 ∷ refused 7 6 ∷ refused 8 6 ∷ refused 2 67 ∷ []
   -- to a C caller: 0 where there is a quote, refusals 14, 15 and 16 of no line, refusal 8 at line 6; of a state the number alone
   pub codes : quoteCode (quoting (textOf (case1 .ticket)) (5 ∷ []) 2) ∷ quoteCode (quoting (textOf (case1 .ticket)) [] 2)
       ∷ quoteCode (quoting (textOf (case1 .ticket)) (1000000001 ∷ []) 2) ∷ quoteCode (quoting (textOf (case1 .ticket)) (5 ∷ []) 1)
