@@ -19,6 +19,10 @@ has the rounds of the run too and nothing else of what running writes (`settling
 paper-07.jsonl has the reasons of whole runs, and single reasons or refusals (`reasons`).
 
 paper-09.jsonl has quotes or refusals, each of a process by the direct costs of a tender's lines (`quotes`).
+
+paper-14.jsonl has orders in which the process parts of an accepted ticket are called, and the states with which they end: of one tender
+(`orders`), or of two whose rounds are mixed (`mixed_orders`). Every order names all processes. To be passed over are those that have
+crashed, and in closing also those that are open and crash in that round; one that has decided is called, and refuses with 11.
 """
 
 from __future__ import annotations
@@ -26,6 +30,7 @@ from __future__ import annotations
 import json
 import os
 from dataclasses import dataclass
+from typing import NamedTuple
 
 FOLDER = os.path.join(os.path.dirname(os.path.dirname(os.path.abspath(__file__))), "tests", "vectors")
 BASE, DESK = "base", "desk"
@@ -34,6 +39,7 @@ TICKET_FILES = [BASE, *PAPERS]
 SETTLING = "paper-06"  # whose vectors are of settling a ticket
 REASONS = "paper-07"  # whose vectors are of the reason of a process in a round
 QUOTES = "paper-09"  # whose vectors are of the quote of a process
+ORDERS = "paper-14"  # whose vectors are of the order in which process parts are called
 COUNTED_AS_SENT = [BASE, "paper-01", "paper-02"]  # whose `result` is of before Paper 4
 FLOOD = (b"05", b"06")  # how a ticket begins that is refused until Paper 5 lands
 COUNTS = 4  # digits at the end of a process's line, two for each count (Paper 2)
@@ -108,6 +114,33 @@ class Quote(Vector):
     process: int
     quote: int | None  # in pence; none if it is refused
     refusal: tuple | None  # its number and line
+
+
+@dataclass
+class Order(Vector):
+    """A ticket, the orders in which its process parts are called, and their states at the end."""
+
+    text: bytes
+    speaking: list  # for each round of the run the processes, all of them, in the order in which they are to speak
+    closing: list  # likewise, in the order in which they are to close
+    states: list  # nine bytes for each process
+
+
+class Step(NamedTuple):
+    """A round of one of two tenders: its next one."""
+
+    tender: int  # from 0: the place of its ticket and states (the file counts from 1)
+    speaking: list
+    closing: list
+
+
+@dataclass
+class MixedOrder(Vector):
+    """The tickets of two tenders, their rounds in the order in which they are played, and the states at the end."""
+
+    texts: list
+    steps: list
+    states: list  # for each tender those of its processes, nine bytes each
 
 
 @dataclass
@@ -265,6 +298,36 @@ def quotes():
         Quote(QUOTES, number, vector["about"], text_of(vector, "ticket"), *map(vector.get, names), refusal_of(vector))
         for number, vector in objects(QUOTES)
     ]
+
+
+def orders():
+    """The vectors of Paper 14 that are of one tender."""
+    names = ("speaking_order_by_round", "closing_order_by_round")
+    return [
+        Order(ORDERS, number, vector["about"], text_of(vector, "ticket"), *map(vector.get, names), states_of(vector["states_at_the_end"]))
+        for number, vector in objects(ORDERS)
+        if "steps" not in vector
+    ]
+
+
+def mixed_orders():
+    """The vectors of Paper 14 that are of two tenders."""
+    return [
+        MixedOrder(
+            ORDERS,
+            number,
+            vector["about"],
+            [ticket.encode("ascii") for ticket in vector["tickets"]],
+            [Step(step["tender"] - 1, step["speaking_order"], step["closing_order"]) for step in vector["steps"]],
+            [states_of(states) for states in vector["states_at_the_end_by_tender"]],
+        )
+        for number, vector in objects(ORDERS)
+        if "steps" in vector
+    ]
+
+
+def states_of(digits):
+    return [bytes.fromhex(state) for state in digits]
 
 
 def calls():

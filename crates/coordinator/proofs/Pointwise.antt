@@ -1,12 +1,11 @@
 -- The run as a function of the round and the process, which the theorems about whole runs are proved of: no lists, no ranges.
 -- One law links it to the run of specs/Run at each process; and states that are the same at each process are the same. Assumes nothing.
 use mathlib.Core.List.{List, map}
-use mathlib.Core.Path.{_≡_, sym, ap, _∙_}
+use mathlib.Core.Path.{_≡_, _∙_}
 use Prim.Native.Nat.{ℕ, zero, suc, _-_, _≤_, _<_}
 use native.Mathlib.Omega.{arith}
-use lib.ListN.{length, getD, length-map, List·getD-map}
-use lib.Seq.{ext-getD}
-use Rattle.general.proofs.Indexed.{length-mapFrom, mapFrom-at}
+use lib.ListN.{length, length-map, List·getD-map}
+use Rattle.general.proofs.Indexed.{length-mapFrom, mapFrom-at, numbered-ext}
 use Rattle.general.proofs.Lists.{getD-inside}
 use Rattle.coordinator.specs.Message.{Messages}
 use Rattle.consensus.specs.Instance.{Instance, proposalOf, faultOf}
@@ -27,11 +26,7 @@ stateAt x (suc r) p = after (suc r) p (faultOf x p) (receivedIn x (suc r) (state
 pub states-ext : (n : ℕ) (l m : List State) → length l ≡ n → length m ≡ n
     → ((p : ℕ) → 1 ≤ p → p ≤ n → stateOf l p ≡ stateOf m p) → l ≡ m
 unfolding stateOf
-states-ext n l m hl hm same =
-    ext-getD (crashed 0) l m (hl ∙ sym hm)
-    λ i h.
-    let place : suc i - 1 ≡ i = omega arith in
-    ap (λ (k : ℕ). getD l k (crashed 0)) (sym place) ∙ same (suc i) (omega arith) (omega arith) ∙ ap (λ (k : ℕ). getD m k (crashed 0)) place
+states-ext n l m hl hm same = numbered-ext (crashed 0) n l m hl hm same
 
 -- There is a state for each proposal throughout.
 pub length-states : (x : Instance) (r : ℕ) → length (runTo x r .states) ≡ length (x .proposals)

@@ -6,6 +6,7 @@ pub mod PairedFaults
 pub mod AcceptedLine
 pub mod PairedTexts
 pub mod PartsClaim
+pub mod SchedulesClaim
 pub mod Demand1
 pub mod Demand2
 pub mod Demand3

@@ -3,7 +3,7 @@ use mathlib.Core.List.{List, [], _∷_, map}
 use mathlib.Core.Option.{none}
 use mathlib.Core.Path.{_≡_, refl, sym, ap, _∙_}
 use mathlib.Core.Bool.{true}
-use Prim.Native.Nat.{ℕ, zero, suc, _-_, _<_}
+use Prim.Native.Nat.{ℕ, zero, suc, _-_, _≤_, _<_}
 use native.Mathlib.Omega.{arith}
 use lib.ListN.{replicate, getD}
 use Rattle.general.specs.Bits.{member}
@@ -15,7 +15,7 @@ use Rattle.general.specs.Table.{tabulate}
 use Rattle.general.specs.Text.{ascii}
 use Rattle.consensus.specs.Instance.{Instance, Fault, correct, crashes, beforeSending, duringCommits, pointFrom, faultOf, withinLimits}
 use Rattle.consensus.specs.Consensus.{IsProcess, Decides}
-use Rattle.consensus.specs.FourProcesses.{four}
+use Rattle.consensus.specs.FourProcesses.{four, firstCrashes, afterOneCommit}
 use Rattle.coordinator.specs.Pairing.{LinePaired, same, moreCommits, missing, Paired}
 use Rattle.coordinator.specs.Message.{arriving, getsData, getsCommit}
 use Rattle.coordinator.specs.Transition.{sends, receives}
@@ -58,10 +58,14 @@ use Rattle.part_format.specs.Frame.{dataFrame, commitFrame, framesOf, isDataFra
 use Rattle.part_format.specs.Start.{startRefusal, startState, startBytes}
 use Rattle.part_format.specs.Speak.{spokenBy, speakRefusal, speakYields}
 use Rattle.part_format.specs.Close.{stateAfter, closedOn, closeOnHeard, closeState}
-use Rattle.part_host.specs.Part.{partOf, bytesKept, isOpen, outputRoom, yielded}
+use Rattle.part_host.specs.Part.{Part, partOf, bytesKept, isOpen, outputRoom, yielded}
 use Rattle.part_host.specs.PartEnds.{stateByPart}
 use Rattle.part_host.specs.Hearing.{bytesReaching, reachFrom, letThrough, heardFrom, heard}
 use Rattle.part_host.specs.Host.{blank, startedParts, partAfter, partsAfter, partsTo}
+use Rattle.part_schedules.specs.Schedule.{played}
+use Rattle.part_schedules.specs.EveryOrder.{passingRounds, passingSchedule}
+use Rattle.part_schedules.specs.Example.{ascending, named, case1Ends, afterAllCommits, case3Ends}
+use Rattle.part_schedules.proofs.Example.{ends-alike, four-named, premises-met}
 use Rattle.pricing_format.specs.OwnQuote.{ownQuote}
 use Rattle.pricing.specs.Price.{overheadOf, markupOf, nearest, withRate, linePrice, priceOf}
 use Rattle.pricing.specs.Quote.{anyAbove, linesRefusal, quoteBy}
@@ -69,7 +73,8 @@ use Rattle.pricing_format.specs.Quoting.{quotedOr16, ofLines, quoteIn, quoting}
 use Rattle.pricing_format.specs.QuoteCall.{placeAfter, refusalNumber, QuoteCall}
 use Rattle.quotes.specs.Answer.{quoteOfAnswer}
 use Rattle.demands.proofs.QuoteClaim.{quote-claim}
-use Rattle.demands.specs.Witnesses.{crashText, mixedText, moreCommitsText, noCrashText, laterText, silentText, PairMet, RunMet, SentMet, SettledMet, ReasonMet, CrashMet, ReasonsMet, QuoteMet, PricedMeanwhile, sentAs, Witnesses}
+use Rattle.demands.proofs.SchedulesClaim.{schedules-claim}
+use Rattle.demands.specs.Witnesses.{crashText, mixedText, moreCommitsText, noCrashText, laterText, silentText, PairMet, RunMet, SentMet, SettledMet, ReasonMet, CrashMet, ReasonsMet, QuoteMet, PricedMeanwhile, PlayedMet, sentAs, Witnesses}
 use Rattle.demands.proofs.Demand2.{demand-2}
 use Rattle.demands.proofs.LettersClaim.{run-met-alike, letters-claim}
 
@@ -343,6 +348,41 @@ not-quoted : QuoteCall crashText oneLine 1 7 7 (refusalCode 16 0)
 unfolding codeOf placeAfter
 not-quoted = record { answered = rw (crash-quotes .2) refl; place = rw (crash-quotes .2) refl }
 
+-- Cases 1 and 3 as instances of four processes.
+crash-is : crash ≡ afterOneCommit
+unfolding four firstCrashes afterOneCommit
+crash-is = refl
+
+all-commits-are : allCommits ≡ afterAllCommits
+unfolding four firstCrashes afterAllCommits
+all-commits-are = refl
+
+played-ascending : PlayedMet crashText ascending case1Ends
+played-ascending =
+    record { instance = afterOneCommit; read = rw (← crash-is) (texts-read .0); whole = premises-met .whole; left = ends-alike .inAscendingOrder }
+
+-- Orders that name all processes are played for a round each of t + 1, which are enough.
+played-named : (text : List ℕ) (x : Instance) (ends : List Part) → readTicket text ≡ accepted x → x .processes ≡ 4 → runOf x .rounds ≤ 3
+    → played x (passingSchedule x named) .parts ≡ ends → PlayedMet text (passingSchedule x named) ends
+unfolding named passingSchedule passingRounds
+played-named text x ends read are-four rounds left =
+    let ordered = schedules-claim .everyOrder text x read .inOrder named (four-named x are-four) in
+    record { instance = x; read = read; whole = schedules-claim .anyOrder text x read .through (passingSchedule x named) ordered (omega arith); left = left }
+
+few-rounds : (runOf afterOneCommit .rounds ≤ 3) × (runOf afterAllCommits .rounds ≤ 3)
+unfolding afterAllCommits firstCrashes afterOneCommit four member mapFrom faultOf arriving getsData getsCommit sends receives amongFirst reachAt reachIn reach stateOf crashesIn sentBy received afterOutcome after statesAfter isUndecided anyUndecided speaks carries carriedIn dataIn commitsIn initial withRound runTo runOf
+few-rounds = (omega arith, omega arith)
+
+played-otherwise : PlayedMet crashText (passingSchedule afterOneCommit named) case1Ends
+unfolding four firstCrashes afterOneCommit
+played-otherwise =
+    played-named crashText afterOneCommit case1Ends (rw (← crash-is) (texts-read .0)) refl (few-rounds .0) (ends-alike .inOtherOrders)
+
+played-paired : PlayedMet moreCommitsText (passingSchedule afterAllCommits named) case3Ends
+unfolding four firstCrashes afterAllCommits
+played-paired =
+    played-named moreCommitsText afterAllCommits case3Ends (rw (← all-commits-are) (texts-read .1)) refl (few-rounds .1) (ends-alike .ofCase3)
+
 -- 100 bytes are one too few, and 101 just enough.
 short : RunCall crashText (replicate 100 165) (replicate 100 165) (refusalCode 9 0)
 unfolding answerOf codeOf running resultIn bufferAfter resultText resultLines joined lineBy processLines lastLine processLine endBytes resultSize hexLine hexDigits digitOf crashText moreCommitsText noCrashText opening textOf ascii member number numberFrom bytesOf mapFrom countFrom countOf addAt pointFrom faultOf withinLimits arriving getsData getsCommit sends receives amongFirst reachAt reachIn reach stateOf crashesIn sentBy received afterOutcome after statesAfter isUndecided anyUndecided speaks carries carriedIn dataIn commitsIn isIdle countsAsCrash crashCount initial withRound runTo runOf sentAfter dataBy commitsBy crashesOf digitValue isDigit scan closed unclosed linesFrom linesOf proceed readFrom isKind headerSays afterProposal proposalSays failureLine placesCrash allBetween suitsStep crashSays failureSays lineSays unproposed withProposal withCrash begin store accept atEnd readTicket
@@ -371,6 +411,9 @@ witnesses =
       quotedMixed = quoted-mixed;
       notQuoted = not-quoted;
       quotedMeanwhile = quoted-meanwhile;
+      played = played-ascending;
+      playedOtherwise = played-otherwise;
+      playedPaired = played-paired;
       short = short;
       fits = fits;
     }

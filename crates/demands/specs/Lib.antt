@@ -2,6 +2,7 @@ pub mod OutputSays
 pub mod Written
 pub mod PairedTexts
 pub mod PartsClaim
+pub mod SchedulesClaim
 pub mod Demand1
 pub mod Demand2
 pub mod Demand3

@@ -2,7 +2,7 @@
 -- paired with case 3 and with itself without its failure line; its lines say what counts of each process. (What else is answered on case 1 in mixed letters,
 -- and on refused texts in two letterings: formats/specs/LetteringCases.) Settling case 1 names a round below the run's last, and settling the further run
 -- `crashesLater` one that is neither the first nor the last. Reasons are given in cases 1 and 6, and all of case 1 are written. Two processes of case 1 quote, and
--- one that crashes does not.
+-- one that crashes does not. Cases 1 and 3 are played by separate parts, case 1 in two orders.
 use mathlib.Core.List.{List, [], _∷_, _++_, map}
 use mathlib.Core.Option.{Option, some, none}
 use mathlib.Core.Path.{_≡_}
@@ -11,6 +11,7 @@ use lib.ListN.{replicate}
 use Rattle.consensus.specs.Instance.{Instance}
 use Rattle.consensus.specs.State.{crashed}
 use Rattle.consensus.specs.Consensus.{IsProcess, Decides}
+use Rattle.consensus.specs.FourProcesses.{afterOneCommit}
 use Rattle.coordinator.specs.Run.{runOf, endOf}
 use Rattle.coordinator.specs.TrueReasons.{IsRound, StaysUp, endRound}
 use Rattle.formats.specs.Reading.{accepted}
@@ -28,8 +29,12 @@ use Rattle.running.specs.declared.SettleAnswer.the-variants.{Round}
 use Rattle.reasons.specs.Answer.{reasonOfAnswer, Explained}
 use Rattle.reasons.specs.declared.ReasonAnswer.the-variants.{Reason}
 use Rattle.part_format.specs.PartState.{ValidBytes}
-use Rattle.part_host.specs.Part.{partOf, bytesKept}
+use Rattle.part_host.specs.Part.{Part, partOf, bytesKept}
 use Rattle.part_host.specs.Host.{partsTo, endPartOf}
+use Rattle.part_schedules.specs.Schedule.{Schedule, played}
+use Rattle.part_schedules.specs.AnyOrder.{Whole}
+use Rattle.part_schedules.specs.EveryOrder.{passingSchedule}
+use Rattle.part_schedules.specs.Example.{ascending, named, case1Ends, afterAllCommits, case3Ends}
 use Rattle.pricing_format.specs.Quoting.{quoting}
 use Rattle.pricing_format.specs.QuoteCall.{QuoteCall, PriceCall}
 use Rattle.quotes.specs.Answer.{quoteOfAnswer}
@@ -142,6 +147,13 @@ pub record PricedMeanwhile (text costs : List ℕ) (r p q pence : ℕ) : Type 0 
   pub waits : PriceCall (bytesKept (partOf (partsTo instance r) q)) costs 7 7 16
   pub valid : ValidBytes (bytesKept (partOf (partsTo instance r) p))
 
+-- A text is accepted; this schedule of its processes is in order, ends with none of them open, and leaves these parts.
+pub record PlayedMet (text : List ℕ) (s : Schedule) (ends : List Part) : Type 0 where
+  pub instance : Instance
+  pub read : readTicket text ≡ accepted instance
+  pub whole : Whole instance s
+  pub left : played instance s .parts ≡ ends
+
 abbrev pub sentAs : (dataSent commitsSent : ℕ) → Option Sent
 sentAs dataSent commitsSent = some (record { dataSent = dataSent; commitsSent = commitsSent })
 
@@ -169,6 +181,10 @@ pub record Witnesses : Type 0 where
   pub notQuoted : QuoteCall crashText (100000 ∷ []) 1 7 7 (refusalCode 16 0)
   -- after round 1 of two process 4 has decided, and prices by its nine bytes; process 2 is open, and cannot yet
   pub quotedMeanwhile : PricedMeanwhile crashText (100000 ∷ []) 1 4 2 100100
+  -- case 1 in two orders, and case 3, with which it is paired, in one of them
+  pub played : PlayedMet crashText ascending case1Ends
+  pub playedOtherwise : PlayedMet crashText (passingSchedule afterOneCommit named) case1Ends
+  pub playedPaired : PlayedMet moreCommitsText (passingSchedule afterAllCommits named) case3Ends
   -- a buffer of 100 bytes is too short for it, and one of 101 is not
   pub short : RunCall crashText (replicate 100 165) (replicate 100 165) (refusalCode 9 0)
   pub fits : RunCall crashText (replicate 101 165) (textOf (case1 .output)) 101

@@ -1,13 +1,15 @@
--- Laws of `mapFrom`: its length, and what stands at each place and for each number, used wherever states are read process by process; and of `countFrom`:
+-- Laws of `mapFrom`: its length, and what stands at each place and for each number, used wherever states are read process by process; lists that have the same
+-- for each number; and of `countFrom`:
 -- tests that say the same, that are stricter or that exclude one another, and the elements above a number. Assumes nothing.
 use mathlib.Core.List.{List, [], _∷_, _++_}
-use mathlib.Core.Path.{_≡_, refl, ap, ap₂, subst, _∙_}
+use mathlib.Core.Path.{_≡_, refl, sym, ap, ap₂, subst, _∙_}
 use mathlib.Core.Bool.{Bool, true, false, cond}
 use Prim.Native.Nat.{ℕ, zero, suc, _+_, _-_, _≤_, _<_}
 use native.Mathlib.Omega.{arith}
 use borrow.Author.Tests.{ltb-true, ltb-false}
 use lib.Dec.{ltb}
 use lib.ListN.{length, getD}
+use lib.Seq.{ext-getD}
 use Rattle.general.specs.Indexed.{mapFrom, countFrom}
 use Rattle.general.proofs.Tests.{cond-le}
 
@@ -40,6 +42,15 @@ module _ {A B : Type 0} (f : ℕ → A → B) where
       ap (λ (m : List B). f i b ∷ m) (mapFrom-snoc (suc i) l a ∙ ap (λ (j : ℕ). mapFrom f (suc i) l ++ (f j a ∷ [])) e)
 
 module _ {A : Type 0} where
+  -- Numbered from 1, lists of n elements that have the same for each number are the same.
+  pub numbered-ext : (d : A) (n : ℕ) (l m : List A) → length l ≡ n → length m ≡ n
+      → ((p : ℕ) → 1 ≤ p → p ≤ n → getD l (p - 1) d ≡ getD m (p - 1) d) → l ≡ m
+  numbered-ext d n l m hl hm same =
+      ext-getD d l m (hl ∙ sym hm)
+      λ i h.
+      let place : suc i - 1 ≡ i = omega arith in
+      ap (λ (k : ℕ). getD l k d) (sym place) ∙ same (suc i) (omega arith) (omega arith) ∙ ap (λ (k : ℕ). getD m k d) place
+
   -- Tests that say the same of every element, with its number, count the same.
   pub count-same : (f g : ℕ → A → Bool) (i : ℕ) (l : List A)
       → ((k : ℕ) (a : A) → k < length l → getD l k a ≡ a → f (i + k) a ≡ g (i + k) a) → countFrom f i l ≡ countFrom g i l

@@ -1,0 +1,43 @@
+-- Paper 14, closed over texts: an accepted text gives a well-formed instance, of which the claims on schedules hold. Assumes nothing.
+use mathlib.Core.List.{List}
+use mathlib.Core.Path.{_≡_, ap, _∙_}
+use Prim.Native.Nat.{ℕ}
+use Rattle.consensus.specs.Instance.{Instance}
+use Rattle.consensus.specs.Consensus.{IsProcess}
+use Rattle.formats.specs.Reading.{accepted}
+use Rattle.formats.specs.Ticket.{readTicket}
+use Rattle.formats.proofs.WellFormed.{accepted-well-formed}
+use Rattle.part_host.specs.Part.{partOf}
+use Rattle.part_schedules.specs.Steps.{Hosted, Step, lent, play}
+use Rattle.part_schedules.specs.Schedule.{Schedule, scheduleSteps, played}
+use Rattle.part_schedules.specs.Answers.{allAnswers}
+use Rattle.part_schedules.specs.ByRun.{partByRun}
+use Rattle.part_schedules.specs.AnyOrder.{Whole}
+use Rattle.part_schedules.specs.Tenders.{TenderStep, playMixed, ofTender}
+use Rattle.part_schedules.proofs.AnyOrder.{any-order, orders-no-later}
+use Rattle.part_schedules.proofs.EveryOrder.{every-order}
+use Rattle.part_schedules.proofs.Tenders.{tenders-apart}
+use Rattle.demands.specs.SchedulesClaim.{SchedulesClaim}
+use Rattle.demands.proofs.PairedTexts.{texts-paired}
+
+mixed-by-run : (text : List ℕ) (xs : ℕ → Instance) (steps : List TenderStep) (i : ℕ) (s : Schedule) → readTicket text ≡ accepted (xs i)
+    → Whole (xs i) s → ofTender i steps ≡ scheduleSteps s → (p : ℕ) → IsProcess (xs i) p
+    → partOf (playMixed xs steps (λ j. lent (xs j)) i .parts) p ≡ partByRun (xs i) p
+unfolding played
+mixed-by-run text xs steps i s read whole own p process =
+    ap (λ (h : Hosted). partOf (h .parts) p)
+    (tenders-apart .leftAsAlone xs steps (λ j. lent (xs j)) i ∙ ap (λ (l : List Step). play (xs i) l (lent (xs i))) own)
+    ∙ any-order (xs i) (accepted-well-formed text (xs i) read) .byRun s whole p process
+
+pub schedules-claim : SchedulesClaim
+schedules-claim =
+    record {
+      anyOrder = λ text x read. any-order x (accepted-well-formed text x read);
+      everyOrder = λ text x read. every-order x (accepted-well-formed text x read);
+      noLater = λ a b x y read read′ paired.
+          orders-no-later x y (accepted-well-formed a x read) (accepted-well-formed b y read′) (texts-paired a b x y read read′ paired);
+      mixed = mixed-by-run;
+      mixedAnswers = λ xs steps i s own.
+          tenders-apart .answeredAsAlone xs steps (λ j. lent (xs j)) i ∙ ap (allAnswers (xs i) (lent (xs i))) own;
+      apart = tenders-apart;
+    }

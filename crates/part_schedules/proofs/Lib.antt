@@ -1,0 +1,14 @@
+pub mod Turns
+pub mod Phases
+pub mod Heard
+pub mod Waiting
+pub mod Round
+pub mod Starts
+pub mod Refused
+pub mod StartsAnswered
+pub mod RoundAnswered
+pub mod AnyOrder
+pub mod Tenders
+pub mod EveryOrder
+pub mod Example
+pub mod WrongOrders

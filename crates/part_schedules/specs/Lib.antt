@@ -1,0 +1,9 @@
+pub mod Steps
+pub mod Schedule
+pub mod Answers
+pub mod ByRun
+pub mod AnyOrder
+pub mod Tenders
+pub mod EveryOrder
+pub mod Example
+pub mod WrongOrders

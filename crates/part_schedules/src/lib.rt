@@ -1,0 +1,1 @@
+// Definitions and proofs only: specs/ and proofs/.
