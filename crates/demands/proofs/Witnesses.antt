@@ -64,7 +64,7 @@ use Rattle.part_host.specs.Hearing.{bytesReaching, reachFrom, letThrough, heard
 use Rattle.part_host.specs.Host.{blank, startedParts, partAfter, partsAfter, partsTo}
 use Rattle.part_schedules.specs.Schedule.{played}
 use Rattle.part_schedules.specs.EveryOrder.{passingRounds, passingSchedule}
-use Rattle.part_schedules.specs.Example.{ascending, named, case1Ends, afterAllCommits, case3Ends}
+use Rattle.part_schedules.specs.Example.{ascending, named, case1Ends, afterAllCommits, case3Ends, leftNamed}
 use Rattle.part_schedules.proofs.Example.{ends-alike, four-named, premises-met}
 use Rattle.pricing_format.specs.OwnQuote.{ownQuote}
 use Rattle.pricing.specs.Price.{overheadOf, markupOf, nearest, withRate, linePrice, priceOf}
@@ -359,7 +359,7 @@ all-commits-are = refl
 
 played-ascending : PlayedMet crashText ascending case1Ends
 played-ascending =
-    record { instance = afterOneCommit; read = rw (← crash-is) (texts-read .0); whole = premises-met .whole; left = ends-alike .inAscendingOrder }
+    record { instance = afterOneCommit; read = rw (← crash-is) (texts-read .0); whole = premises-met .whole; left = ends-alike .case1Ascending }
 
 -- Orders that name all processes are played for a round each of t + 1, which are enough.
 played-named : (text : List ℕ) (x : Instance) (ends : List Part) → readTicket text ≡ accepted x → x .processes ≡ 4 → runOf x .rounds ≤ 3
@@ -374,14 +374,14 @@ unfolding afterAllCommits firstCrashes afterOneCommit four member mapFrom faultO
 few-rounds = (omega arith, omega arith)
 
 played-otherwise : PlayedMet crashText (passingSchedule afterOneCommit named) case1Ends
-unfolding four firstCrashes afterOneCommit
+unfolding four firstCrashes afterOneCommit leftNamed
 played-otherwise =
-    played-named crashText afterOneCommit case1Ends (rw (← crash-is) (texts-read .0)) refl (few-rounds .0) (ends-alike .inOtherOrders)
+    played-named crashText afterOneCommit case1Ends (rw (← crash-is) (texts-read .0)) refl (few-rounds .0) (ends-alike .case1Named)
 
 played-paired : PlayedMet moreCommitsText (passingSchedule afterAllCommits named) case3Ends
-unfolding four firstCrashes afterAllCommits
+unfolding four firstCrashes afterAllCommits leftNamed
 played-paired =
-    played-named moreCommitsText afterAllCommits case3Ends (rw (← all-commits-are) (texts-read .1)) refl (few-rounds .1) (ends-alike .ofCase3)
+    played-named moreCommitsText afterAllCommits case3Ends (rw (← all-commits-are) (texts-read .1)) refl (few-rounds .1) (ends-alike .case3Named)
 
 -- 100 bytes are one too few, and 101 just enough.
 short : RunCall crashText (replicate 100 165) (replicate 100 165) (refusalCode 9 0)

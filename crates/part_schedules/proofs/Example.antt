@@ -1,4 +1,4 @@
--- Case 1 of document 01 in two orders, and beside case 5 with the calls of both mixed: the definitions compute (`ends-alike`, `calls-answered`), and the premises
+-- Marked cases of document 01 in other orders, and case 1 beside case 5 with the calls of both mixed: the definitions compute (`ends-alike`, `calls-answered`), and the premises
 -- of the claims on schedules are met (`premises-met`). Assumes nothing.
 use mathlib.Core.List.{List, [], _∷_, map}
 use mathlib.Core.Path.{_≡_, refl, sym, subst}
@@ -14,14 +14,14 @@ use Rattle.general.proofs.Tests.{by-equal, both}
 use Rattle.consensus.specs.Instance.{Instance, withinLimits, proposalOf, faultOf}
 use Rattle.consensus.specs.State.{crashesIn, stateOf}
 use Rattle.consensus.specs.Consensus.{IsProcess}
-use Rattle.consensus.specs.FourProcesses.{four, firstCrashes, afterOneCommit, dataToTheLast}
+use Rattle.consensus.specs.FourProcesses.{four, firstCrashes, afterOneCommit, dataToTheLast, idleBesides}
 use Rattle.coordinator.specs.Message.{arriving, getsData, getsCommit}
 use Rattle.coordinator.specs.Transition.{sends, receives}
 use Rattle.coordinator.specs.Delivery.{amongFirst, reachAt, reachIn, reach}
 use Rattle.coordinator.specs.Round.{sentBy, received, afterOutcome, after, statesAfter}
 use Rattle.coordinator.specs.Undecided.{isUndecided, anyUndecided}
 use Rattle.coordinator.specs.Count.{speaks, carries, carriedIn, dataIn, commitsIn}
-use Rattle.coordinator.specs.Run.{initial, withRound, runTo, runOf}
+use Rattle.coordinator.specs.Run.{initial, withRound, runTo, runOf, endOf}
 use Rattle.part_format.specs.Case.{digitsIn, paired, bytesIn}
 use Rattle.part_format.specs.PartState.{stateBytes, stateFrom, identityValid, roundValid, fieldsValid, stateValid, stateRefusal, isOwnRound}
 use Rattle.part_format.specs.Frame.{dataFrame, commitFrame, framesOf, isDataFrame, isCommitFrame, messagesFrom, heardBy}
@@ -31,21 +31,32 @@ use Rattle.part_format.specs.Close.{stateAfter, closedOn, heardRefusal, closeRe
 use Rattle.part_host.specs.Part.{partOf, bytesKept, isOpen, outputRoom, yielded}
 use Rattle.part_host.specs.Hearing.{bytesReaching, reachFrom, letThrough}
 use Rattle.part_host.specs.Host.{blank}
+use Rattle.part_host.specs.DecideAlike.{partState}
+use Rattle.part_schedules.specs.ByRun.{valueHeld, estimateIn, partByEnd, partByRun}
 use Rattle.part_schedules.specs.Steps.{start, lent, heardOf, startedWith, closedWith, leftAfter, changedAt, step, play}
 use Rattle.part_schedules.specs.Schedule.{roundSteps, stepsOfRounds, scheduleSteps, played, times, isUp, waits, crashesNow, mustSpeak, maySpeak, mustClose, mayClose, Calls, EachOnce, RoundsInOrder}
 use Rattle.part_schedules.proofs.Turns.{times-other}
 use Rattle.part_schedules.specs.Answers.{answers, allAnswers}
 use Rattle.part_schedules.specs.EveryOrder.{among, passingOver, passingRounds, passingSchedule, AllNamed, Named}
 use Rattle.part_schedules.specs.Tenders.{stepOne, playMixed, ofTender, allOf}
-use Rattle.part_schedules.specs.Example.{ascending, named, case1Ends, afterAllCommits, case3Ends, EndsAlike, Answers, tenders, inTurn, mixed, case5Ends, PremisesMet}
+use Rattle.part_schedules.specs.Example.{ascending, named, case1Ends, afterAllCommits, case3Ends, adoptedThenCrashed, adoptedEnds, leftNamed, givenByRun, EndsAlike, answersNamed, case1Answers, CallsAnswered, tenders, inTurn, mixed, case5Ends, PremisesMet}
 
 pub ends-alike : EndsAlike
-unfolding ascending named case1Ends afterAllCommits case3Ends digitsIn paired bytesIn four firstCrashes afterOneCommit number numberFrom bytesOf mapFrom withinLimits proposalOf faultOf sends receives amongFirst reachAt reachIn crashesIn stateBytes stateFrom identityValid roundValid fieldsValid stateValid stateRefusal isOwnRound dataFrame commitFrame framesOf isDataFrame isCommitFrame messagesFrom startRefusal startState startBytes spokenBy speakRefusal speakYields heardBy stateAfter closedOn closeOnHeard closeState partOf isOpen outputRoom yielded bytesReaching reachFrom letThrough blank lent heardOf startedWith closedWith leftAfter changedAt step play roundSteps stepsOfRounds scheduleSteps played isUp waits crashesNow maySpeak mayClose among passingOver passingRounds passingSchedule
-ends-alike = record { inAscendingOrder = refl; inOtherOrders = refl; ofCase3 = refl }
+unfolding ascending named case1Ends afterAllCommits case3Ends idleBesides adoptedThenCrashed adoptedEnds leftNamed givenByRun digitsIn paired bytesIn member four firstCrashes afterOneCommit number numberFrom bytesOf mapFrom withinLimits proposalOf faultOf sends receives amongFirst reachAt reachIn crashesIn stateBytes stateFrom identityValid roundValid fieldsValid stateValid stateRefusal isOwnRound dataFrame commitFrame framesOf isDataFrame isCommitFrame messagesFrom startRefusal startState startBytes spokenBy speakRefusal speakYields heardBy stateAfter closedOn closeOnHeard closeState partOf isOpen outputRoom yielded bytesReaching reachFrom letThrough blank lent heardOf startedWith closedWith leftAfter changedAt step play roundSteps stepsOfRounds scheduleSteps played isUp waits crashesNow maySpeak mayClose among passingOver passingRounds passingSchedule arriving getsData getsCommit reach stateOf sentBy received afterOutcome after statesAfter isUndecided anyUndecided speaks carries carriedIn dataIn commitsIn initial withRound runTo runOf endOf valueHeld estimateIn partByEnd partByRun partState
+ends-alike =
+    record {
+      case1Ascending = refl;
+      case1Named = refl;
+      case1Run = refl;
+      case3Named = refl;
+      case7Named = refl;
+      adoptedNamed = refl;
+      adoptedRun = refl;
+    }
 
-pub calls-answered : Answers
-unfolding Answers named four firstCrashes afterOneCommit number numberFrom bytesOf mapFrom withinLimits proposalOf faultOf sends receives amongFirst reachAt reachIn crashesIn stateBytes stateFrom identityValid roundValid fieldsValid stateValid stateRefusal isOwnRound dataFrame commitFrame framesOf isDataFrame isCommitFrame messagesFrom startRefusal startState startBytes spokenBy speakRefusal speakYields speakAnswer heardBy stateAfter closedOn closeOnHeard closeState heardRefusal closeRefusal partOf bytesKept isOpen outputRoom yielded bytesReaching reachFrom letThrough blank lent heardOf startedWith closedWith leftAfter changedAt step play roundSteps stepsOfRounds scheduleSteps played isUp waits crashesNow maySpeak mayClose among passingOver passingRounds passingSchedule answers allAnswers
-calls-answered = refl
+pub calls-answered : CallsAnswered
+unfolding named idleBesides answersNamed case1Answers speakAnswer heardRefusal closeRefusal bytesKept answers allAnswers member four firstCrashes afterOneCommit number numberFrom bytesOf mapFrom withinLimits proposalOf faultOf sends receives amongFirst reachAt reachIn crashesIn stateBytes stateFrom identityValid roundValid fieldsValid stateValid stateRefusal isOwnRound dataFrame commitFrame framesOf isDataFrame isCommitFrame messagesFrom startRefusal startState startBytes spokenBy speakRefusal speakYields heardBy stateAfter closedOn closeOnHeard closeState partOf isOpen outputRoom yielded bytesReaching reachFrom letThrough blank lent heardOf startedWith closedWith leftAfter changedAt step play roundSteps stepsOfRounds scheduleSteps played isUp waits crashesNow maySpeak mayClose among passingOver passingRounds passingSchedule
+calls-answered = record { ofCase1 = refl; ofCase7 = refl }
 
 -- ---- four processes, by tests that compute
 

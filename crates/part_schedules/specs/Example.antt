@@ -1,18 +1,19 @@
--- Case 1 of document 01 ('Worked runs') in two orders, and beside case 5 with the calls of both mixed; by them the premises of the claims on schedules can be met
--- (document 02, Paper 14).
-use mathlib.Core.List.{List, [], _∷_, _++_}
+-- Case 1 of document 01 ('Worked runs') in two orders, others in one of them, and case 1 beside case 5 with the calls of both mixed; by them the premises of the
+-- claims on schedules can be met (document 02, Paper 14).
+use mathlib.Core.List.{List, [], _∷_, _++_, map}
 use mathlib.Core.Path.{_≡_}
 use Prim.Native.Nat.{ℕ, _≤_}
 use mathlib.Core.Bool.{cond}
 use lib.Dec.{eqb}
-use Rattle.consensus.specs.Instance.{Instance, duringCommits}
-use Rattle.consensus.specs.FourProcesses.{firstCrashes, afterOneCommit, dataToTheLast}
+use Rattle.consensus.specs.Instance.{Instance, correct, crashes, beforeSending, duringData, duringCommits}
+use Rattle.consensus.specs.FourProcesses.{four, firstCrashes, afterOneCommit, dataToTheLast, idleBesides}
 use Rattle.coordinator.specs.Run.{runOf}
 use Rattle.part_format.specs.Case.{bytesIn}
 use Rattle.part_host.specs.Part.{Part, up, crashedIn}
 use Rattle.part_schedules.specs.Steps.{Step, lent}
 use Rattle.part_schedules.specs.Schedule.{RoundOrder, Schedule, scheduleSteps, played}
 use Rattle.part_schedules.specs.Answers.{allAnswers}
+use Rattle.part_schedules.specs.ByRun.{partByRun}
 use Rattle.part_schedules.specs.AnyOrder.{Whole}
 use Rattle.part_schedules.specs.EveryOrder.{passingSchedule, Named}
 use Rattle.part_schedules.specs.Tenders.{TenderStep, playMixed, ofTender, allOf}
@@ -58,20 +59,50 @@ case3Ends =
     ∷ up (bytesIn "04 04 02 01 01 0000000A")
     ∷ []
 
-pub record EndsAlike : Type 0 where
-  pub inAscendingOrder : played afterOneCommit ascending .parts ≡ case1Ends
-  pub inOtherOrders : played afterOneCommit (passingSchedule afterOneCommit named) .parts ≡ case1Ends
-  pub ofCase3 : played afterAllCommits (passingSchedule afterAllCommits named) .parts ≡ case3Ends
+-- Process 2 hears process 1's value in round 1 and crashes in round 2, before it sends: it keeps that value, and processes 3 and 4 decide 30 in round 3.
+unfoldable pub adoptedThenCrashed : Instance
+adoptedThenCrashed = four (crashes 1 (duringData 2) ∷ crashes 2 beforeSending ∷ correct ∷ correct ∷ [])
 
--- What the calls of the second are answered: four starts; then speaking and closing of each round, of which process 1 closes none and is passed over from
--- round 2 on. Process 4 has decided in round 1, and processes 2 and 3 in round 2.
-unfoldable pub Answers : Type 0
-Answers =
-    allAnswers afterOneCommit (lent afterOneCommit) (scheduleSteps (passingSchedule afterOneCommit named))
-    ≡ (0 ∷ 0 ∷ 0 ∷ 0 ∷ [])
+unfoldable pub adoptedEnds : List Part
+adoptedEnds =
+    crashedIn 1 (bytesIn "01 04 02 01 00 0000000A")
+    ∷ crashedIn 2 (bytesIn "02 04 02 02 00 0000000A")
+    ∷ up (bytesIn "03 04 02 03 01 0000001E")
+    ∷ up (bytesIn "04 04 02 03 01 0000001E")
+    ∷ []
+
+-- The parts with which all processes in these orders leave an instance, and those that its run gives.
+unfoldable pub leftNamed : Instance → List Part
+leftNamed x = played x (passingSchedule x named) .parts
+
+unfoldable pub givenByRun : Instance → List Part
+givenByRun x = map (partByRun x) (1 ∷ 2 ∷ 3 ∷ 4 ∷ [])
+
+pub record EndsAlike : Type 0 where
+  pub case1Ascending : played afterOneCommit ascending .parts ≡ case1Ends
+  pub case1Named : leftNamed afterOneCommit ≡ case1Ends
+  pub case1Run : givenByRun afterOneCommit ≡ case1Ends
+  pub case3Named : leftNamed afterAllCommits ≡ case3Ends
+  -- case 7: process 4 decides in round 1, and its failure line, of round 2, is idle
+  pub case7Named : leftNamed idleBesides ≡ case1Ends
+  pub adoptedNamed : leftNamed adoptedThenCrashed ≡ adoptedEnds
+  pub adoptedRun : givenByRun adoptedThenCrashed ≡ adoptedEnds
+
+-- What the calls in these orders are answered: four starts; then speaking and closing of each round. In case 1 process 1 closes none and is passed over from round 2
+-- on, process 4 has decided in round 1, and processes 2 and 3 in round 2. In case 7 it is the same: process 4 is called in round 2 as well.
+unfoldable pub answersNamed : Instance → List ℕ
+answersNamed x = allAnswers x (lent x) (scheduleSteps (passingSchedule x named))
+
+unfoldable pub case1Answers : List ℕ
+case1Answers =
+    (0 ∷ 0 ∷ 0 ∷ 0 ∷ [])
     ++ (0 ∷ 0 ∷ 0 ∷ 8 ∷ []) ++ (0 ∷ 0 ∷ 0 ∷ [])
     ++ (0 ∷ 8 ∷ 11 ∷ []) ++ (11 ∷ 0 ∷ 0 ∷ [])
     ++ (11 ∷ 11 ∷ 11 ∷ []) ++ (11 ∷ 11 ∷ 11 ∷ [])
+
+pub record CallsAnswered : Type 0 where
+  pub ofCase1 : answersNamed afterOneCommit ≡ case1Answers
+  pub ofCase7 : answersNamed idleBesides ≡ case1Answers
 
 -- Case 1 is tender 1, and any other number case 5.
 unfoldable pub tenders : ℕ → Instance
