@@ -124,13 +124,23 @@
  *      is a broken switch, not a crash: closing without it may break agreement.
  *   6. Close once, on what was heard in this round: nothing, the data frame, or the data frame and then the commit frame.
  *      A process that heard nothing closes on nothing. The coordinator hears nothing.
- *   7. A process begins round r + 1 only after every process that is up has closed round r.
- *   8. A decided part does not speak or close again, nor one whose rounds are over: its mark says so, and such a call is
- *      refused with 11. It sends nothing more, and frames to it are dropped, by the switch or else by its host, as those to
- *      one that has crashed. By its state a decided part may price (uc_price), as often as its host likes.
+ *   7. A process begins round r + 1 only after every process that is up and open has closed round r.
+ *   8. A decided part has no more to speak or close, nor has one whose rounds are over: its mark says so. It may be left out
+ *      or called: such a call is refused with 11 and changes nothing. It sends nothing more, and frames to it are dropped, by
+ *      the switch or else by its host, as those to one that has crashed. By its state a decided part may price (uc_price), as
+ *      often as its host likes.
  *   9. A process that stops, for whatever reason, stays out. One that a host cannot go on with counts as crashed: after a
  *      refusal 12 it must not be closed on nothing instead, and a state read back after a loss of power neither speaks nor
  *      closes. One that has decided may still price: what is decided stays so.
+ *
+ *   Within these the order of calls is free. A host of several processes may call them as they come ready: to speak in any
+ *   order and to close in any other, with new ones in each round. For such a host 5 and 7 come to this: every process that is
+ *   up and open has spoken before any closes, and has closed or crashed before any speaks in the next round. What a process
+ *   yields is taken once, when it speaks, and kept for each receiver until that one closes: the coordinator may have closed
+ *   before, and would be refused. A process that crashes in a round is not closed in it, and keeps the bytes with which the
+ *   round began. Whichever such order it is, each process ends in the same nine bytes, those that the rounds of the ticket's
+ *   run give. The calls of several tenders may be mixed in any way that keeps this order in each, if their states and frames
+ *   are kept apart. (The repository's examples/host.c draws such orders from a seed, for one tender or two.)
  *
  *   One round of one process, in a host of its own (send, sent, heard_in, stop and decided are the
  *   host's):
@@ -162,7 +172,7 @@ extern "C" {
 #endif
 
 /* The version of this header and of the library that is installed with it. */
-#define UC_VERSION "1.7"
+#define UC_VERSION "1.8"
 
 /* The most processes. */
 #define UC_MOST_PROCESSES 64

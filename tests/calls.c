@@ -1,6 +1,7 @@
 /*
  * Calls the library as a C program does: a request on each line of standard input, its answer on a line of standard
- * output. tools/library-test sends it the vectors of tests/vectors/.
+ * output, at once, so that a request may depend on the answers before. tools/library-test sends it the vectors of
+ * tests/vectors/.
  *
  *   run TICKET OUTPUT    settle TICKET    reason PROCESS ROUND TICKET    reasons TICKET OUTPUT
  *   start PROCESS N T VALUE STATE    speak STATE OUTPUT    close STATE HEARD
@@ -198,6 +199,8 @@ int main(void)
                  {"quote", quote}, {"price", price}, {"start", start}, {"speak", speak}, {"close", close_round}};
     static char request[4 * LONGEST + 256];
 
+    if (setvbuf(stdout, NULL, _IOLBF, BUFSIZ))
+        fail("standard output is not written line by line");
     while (fgets(request, sizeof request, stdin)) {
         const char *name = strtok(request, " \n");
         size_t i = 0;
