@@ -15,7 +15,7 @@ use Rattle.general.specs.Table.{tabulate}
 use Rattle.general.specs.Text.{ascii}
 use Rattle.consensus.specs.Instance.{Instance, Fault, correct, crashes, beforeSending, duringCommits, pointFrom, faultOf, withinLimits}
 use Rattle.consensus.specs.Consensus.{IsProcess, Decides}
-use Rattle.consensus.specs.FourProcesses.{four, firstCrashes, afterOneCommit}
+use Rattle.consensus.specs.FourProcesses.{four, firstCrashes, afterOneCommit, dataToTheLast}
 use Rattle.coordinator.specs.Pairing.{LinePaired, same, moreCommits, missing, Paired}
 use Rattle.coordinator.specs.Message.{arriving, getsData, getsCommit}
 use Rattle.coordinator.specs.Transition.{sends, receives}
@@ -63,9 +63,9 @@ use Rattle.part_host.specs.PartEnds.{stateByPart}
 use Rattle.part_host.specs.Hearing.{bytesReaching, reachFrom, letThrough, heardFrom, heard}
 use Rattle.part_host.specs.Host.{blank, startedParts, partAfter, partsAfter, partsTo}
 use Rattle.part_schedules.specs.Schedule.{played}
-use Rattle.part_schedules.specs.EveryOrder.{passingRounds, passingSchedule}
-use Rattle.part_schedules.specs.Example.{ascending, named, case1Ends, afterAllCommits, case3Ends, leftNamed}
-use Rattle.part_schedules.proofs.Example.{ends-alike, four-named, premises-met}
+use Rattle.part_schedules.specs.Permutations.{passingRounds, passingSchedule}
+use Rattle.part_schedules.specs.Example.{ascending, permuted, case1Left, afterAllCommits, case3Left, case5Left, leftPermuted}
+use Rattle.part_schedules.proofs.Example.{ends-alike, four-permuted, premises-met}
 use Rattle.pricing_format.specs.OwnQuote.{ownQuote}
 use Rattle.pricing.specs.Price.{overheadOf, markupOf, nearest, withRate, linePrice, priceOf}
 use Rattle.pricing.specs.Quote.{anyAbove, linesRefusal, quoteBy}
@@ -74,7 +74,7 @@ use Rattle.pricing_format.specs.QuoteCall.{placeAfter, refusalNumber, QuoteCall
 use Rattle.quotes.specs.Answer.{quoteOfAnswer}
 use Rattle.demands.proofs.QuoteClaim.{quote-claim}
 use Rattle.demands.proofs.SchedulesClaim.{schedules-claim}
-use Rattle.demands.specs.Witnesses.{crashText, mixedText, moreCommitsText, noCrashText, laterText, silentText, PairMet, RunMet, SentMet, SettledMet, ReasonMet, CrashMet, ReasonsMet, QuoteMet, PricedMeanwhile, PlayedMet, sentAs, Witnesses}
+use Rattle.demands.specs.Witnesses.{crashText, mixedText, moreCommitsText, noCrashText, laterText, silentText, reachedText, PairMet, RunMet, SentMet, SettledMet, ReasonMet, CrashMet, ReasonsMet, QuoteMet, PricedMeanwhile, PlayedMet, sentAs, Witnesses}
 use Rattle.demands.proofs.Demand2.{demand-2}
 use Rattle.demands.proofs.LettersClaim.{run-met-alike, letters-claim}
 
@@ -357,31 +357,39 @@ all-commits-are : allCommits ≡ afterAllCommits
 unfolding four firstCrashes afterAllCommits
 all-commits-are = refl
 
-played-ascending : PlayedMet crashText ascending case1Ends
+played-ascending : PlayedMet crashText ascending case1Left
 played-ascending =
     record { instance = afterOneCommit; read = rw (← crash-is) (texts-read .0); whole = premises-met .whole; left = ends-alike .case1Ascending }
 
 -- Orders that name all processes are played for a round each of t + 1, which are enough.
 played-named : (text : List ℕ) (x : Instance) (ends : List Part) → readTicket text ≡ accepted x → x .processes ≡ 4 → runOf x .rounds ≤ 3
-    → played x (passingSchedule x named) .parts ≡ ends → PlayedMet text (passingSchedule x named) ends
-unfolding named passingSchedule passingRounds
+    → played x (passingSchedule x permuted) .parts ≡ ends → PlayedMet text (passingSchedule x permuted) ends
+unfolding permuted passingSchedule passingRounds
 played-named text x ends read are-four rounds left =
-    let ordered = schedules-claim .everyOrder text x read .inOrder named (four-named x are-four) in
-    record { instance = x; read = read; whole = schedules-claim .anyOrder text x read .through (passingSchedule x named) ordered (omega arith); left = left }
+    let ordered = schedules-claim .permutations text x read .inOrder permuted (four-permuted x are-four) in
+    record { instance = x; read = read; whole = schedules-claim .anyOrder text x read .through (passingSchedule x permuted) ordered (record { enough = omega arith }); left = left }
 
-few-rounds : (runOf afterOneCommit .rounds ≤ 3) × (runOf afterAllCommits .rounds ≤ 3)
-unfolding afterAllCommits firstCrashes afterOneCommit four member mapFrom faultOf arriving getsData getsCommit sends receives amongFirst reachAt reachIn reach stateOf crashesIn sentBy received afterOutcome after statesAfter isUndecided anyUndecided speaks carries carriedIn dataIn commitsIn initial withRound runTo runOf
-few-rounds = (omega arith, omega arith)
+few-rounds : (runOf afterOneCommit .rounds ≤ 3) × (runOf afterAllCommits .rounds ≤ 3) × (runOf dataToTheLast .rounds ≤ 3)
+unfolding afterAllCommits dataToTheLast firstCrashes afterOneCommit four member mapFrom faultOf arriving getsData getsCommit sends receives amongFirst reachAt reachIn reach stateOf crashesIn sentBy received afterOutcome after statesAfter isUndecided anyUndecided speaks carries carriedIn dataIn commitsIn initial withRound runTo runOf
+few-rounds = (omega arith, omega arith, omega arith)
 
-played-otherwise : PlayedMet crashText (passingSchedule afterOneCommit named) case1Ends
-unfolding four firstCrashes afterOneCommit leftNamed
+played-otherwise : PlayedMet crashText (passingSchedule afterOneCommit permuted) case1Left
+unfolding four firstCrashes afterOneCommit leftPermuted
 played-otherwise =
-    played-named crashText afterOneCommit case1Ends (rw (← crash-is) (texts-read .0)) refl (few-rounds .0) (ends-alike .case1Named)
+    played-named crashText afterOneCommit case1Left (rw (← crash-is) (texts-read .0)) refl (few-rounds .0) (ends-alike .case1Permuted)
 
-played-paired : PlayedMet moreCommitsText (passingSchedule afterAllCommits named) case3Ends
-unfolding four firstCrashes afterAllCommits leftNamed
+played-paired : PlayedMet moreCommitsText (passingSchedule afterAllCommits permuted) case3Left
+unfolding four firstCrashes afterAllCommits leftPermuted
 played-paired =
-    played-named moreCommitsText afterAllCommits case3Ends (rw (← all-commits-are) (texts-read .1)) refl (few-rounds .1) (ends-alike .case3Named)
+    played-named moreCommitsText afterAllCommits case3Left (rw (← all-commits-are) (texts-read .1)) refl (few-rounds .1) (ends-alike .case3Permuted)
+
+reached-read : readTicket reachedText ≡ accepted dataToTheLast
+unfolding four firstCrashes dataToTheLast reachedText opening textOf ascii number numberFrom pointFrom withinLimits digitValue isDigit scan closed unclosed linesFrom linesOf proceed readFrom isKind headerSays afterProposal proposalSays failureLine placesCrash allBetween suitsStep crashSays failureSays lineSays unproposed withProposal withCrash begin store accept atEnd readTicket
+reached-read = refl
+
+played-beside : PlayedMet reachedText (passingSchedule dataToTheLast permuted) case5Left
+unfolding four firstCrashes dataToTheLast leftPermuted
+played-beside = played-named reachedText dataToTheLast case5Left reached-read refl (few-rounds .2) (ends-alike .case5Permuted)
 
 -- 100 bytes are one too few, and 101 just enough.
 short : RunCall crashText (replicate 100 165) (replicate 100 165) (refusalCode 9 0)
@@ -414,6 +422,7 @@ witnesses =
       played = played-ascending;
       playedOtherwise = played-otherwise;
       playedPaired = played-paired;
+      playedBeside = played-beside;
       short = short;
       fits = fits;
     }

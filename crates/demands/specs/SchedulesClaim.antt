@@ -8,12 +8,13 @@ use Rattle.consensus.specs.Consensus.{IsProcess, NoLater}
 use Rattle.formats.specs.Reading.{accepted}
 use Rattle.formats.specs.Ticket.{readTicket}
 use Rattle.part_host.specs.Part.{partOf}
-use Rattle.part_schedules.specs.Steps.{lent}
-use Rattle.part_schedules.specs.Schedule.{Schedule, scheduleSteps, played}
-use Rattle.part_schedules.specs.Answers.{allAnswers}
+use Rattle.part_schedules.specs.Steps.{unstarted}
+use Rattle.part_schedules.specs.Schedule.{Schedule, scheduleSteps, played, InOrder}
+use Rattle.part_schedules.specs.Answers.{allDue}
+use Rattle.part_schedules.specs.EndedCalls.{EndedCalls}
 use Rattle.part_schedules.specs.ByRun.{partByRun}
 use Rattle.part_schedules.specs.AnyOrder.{Whole, endsBy, AnyOrder}
-use Rattle.part_schedules.specs.EveryOrder.{EveryOrder}
+use Rattle.part_schedules.specs.Permutations.{Permutations}
 use Rattle.part_schedules.specs.Tenders.{TenderStep, playMixed, ofTender, answersTo, TendersApart}
 use Rattle.demands.specs.PairedTexts.{PairedTexts}
 
@@ -21,16 +22,19 @@ use Rattle.demands.specs.PairedTexts.{PairedTexts}
 pub record SchedulesClaim : Type 0 where
   -- a schedule in order leaves the parts that the run gives, no call of an open process is refused, and demand 3's first half holds of the bytes
   pub anyOrder : (text : List ℕ) (x : Instance) → readTicket text ≡ accepted x → AnyOrder x
-  -- all processes in whichever order, another one in each round, are a schedule in order once those are passed over that have crashed
-  pub everyOrder : (text : List ℕ) (x : Instance) → readTicket text ≡ accepted x → EveryOrder x
+  -- all processes in whichever order, another one in each round, are a schedule in order once those are passed over that have crashed or, in closing, crash
+  pub permutations : (text : List ℕ) (x : Instance) → readTicket text ≡ accepted x → Permutations x
+  -- a process that has decided may be called or left out wherever one likes, and keeps its bytes from then on
+  pub endedCalls : EndedCalls
   -- demand 3's second half, of two texts that are paired line by line
   pub noLater : (a b : List ℕ) (x y : Instance) → readTicket a ≡ accepted x → readTicket b ≡ accepted y → PairedTexts a b
       → (s u : Schedule) → Whole x s → Whole y u → NoLater x (endsBy (played x s .parts)) y (endsBy (played y u .parts))
-  -- tenders that are played side by side: tender i ends as its own run says, and is answered as alone, whatever is done with the others
+  -- tenders that are played side by side: tender i ends as its own run says, and its calls are answered what is due, whatever is done with the others
   pub mixed : (text : List ℕ) (xs : ℕ → Instance) (steps : List TenderStep) (i : ℕ) (s : Schedule) → readTicket text ≡ accepted (xs i)
       → Whole (xs i) s → ofTender i steps ≡ scheduleSteps s → (p : ℕ) → IsProcess (xs i) p
-      → partOf (playMixed xs steps (λ j. lent (xs j)) i .parts) p ≡ partByRun (xs i) p
-  pub mixedAnswers : (xs : ℕ → Instance) (steps : List TenderStep) (i : ℕ) (s : Schedule) → ofTender i steps ≡ scheduleSteps s
-      → answersTo i xs steps (λ j. lent (xs j)) ≡ allAnswers (xs i) (lent (xs i)) (scheduleSteps s)
+      → partOf (playMixed xs steps (λ j. unstarted (xs j)) i .parts) p ≡ partByRun (xs i) p
+  pub mixedAnswers : (text : List ℕ) (xs : ℕ → Instance) (steps : List TenderStep) (i : ℕ) (s : Schedule) → readTicket text ≡ accepted (xs i)
+      → InOrder (xs i) s → ofTender i steps ≡ scheduleSteps s
+      → answersTo i xs steps (λ j. unstarted (xs j)) ≡ allDue (xs i) (unstarted (xs i)) (scheduleSteps s)
   -- their steps, single calls or whole rounds, may fall in either order
   pub apart : TendersApart

@@ -2,7 +2,7 @@
 -- paired with case 3 and with itself without its failure line; its lines say what counts of each process. (What else is answered on case 1 in mixed letters,
 -- and on refused texts in two letterings: formats/specs/LetteringCases.) Settling case 1 names a round below the run's last, and settling the further run
 -- `crashesLater` one that is neither the first nor the last. Reasons are given in cases 1 and 6, and all of case 1 are written. Two processes of case 1 quote, and
--- one that crashes does not. Cases 1 and 3 are played by separate parts, case 1 in two orders.
+-- one that crashes does not. Cases 1, 3 and 5 are played by separate parts, case 1 in two orders.
 use mathlib.Core.List.{List, [], _∷_, _++_, map}
 use mathlib.Core.Option.{Option, some, none}
 use mathlib.Core.Path.{_≡_}
@@ -11,14 +11,14 @@ use lib.ListN.{replicate}
 use Rattle.consensus.specs.Instance.{Instance}
 use Rattle.consensus.specs.State.{crashed}
 use Rattle.consensus.specs.Consensus.{IsProcess, Decides}
-use Rattle.consensus.specs.FourProcesses.{afterOneCommit}
+use Rattle.consensus.specs.FourProcesses.{afterOneCommit, dataToTheLast}
 use Rattle.coordinator.specs.Run.{runOf, endOf}
 use Rattle.coordinator.specs.TrueReasons.{IsRound, StaysUp, endRound}
 use Rattle.formats.specs.Reading.{accepted}
 use Rattle.formats.specs.Ticket.{readTicket}
 use Rattle.formats.specs.Settle.{settling}
 use Rattle.formats.specs.Reason.{reason}
-use Rattle.formats.specs.Table.{textOf, opening, case1, case3, case6}
+use Rattle.formats.specs.Table.{textOf, opening, case1, case3, case5, case6}
 use Rattle.formats.specs.FurtherRuns.{crashesLater}
 use Rattle.formats.specs.LetterRuns.{case1Mixed}
 use Rattle.formats.specs.Code.{refusalsFrom, refusalCode, RunCall, ReasonsCall, numberCode}
@@ -33,8 +33,8 @@ use Rattle.part_host.specs.Part.{Part, partOf, bytesKept}
 use Rattle.part_host.specs.Host.{partsTo, endPartOf}
 use Rattle.part_schedules.specs.Schedule.{Schedule, played}
 use Rattle.part_schedules.specs.AnyOrder.{Whole}
-use Rattle.part_schedules.specs.EveryOrder.{passingSchedule}
-use Rattle.part_schedules.specs.Example.{ascending, named, case1Ends, afterAllCommits, case3Ends}
+use Rattle.part_schedules.specs.Permutations.{passingSchedule}
+use Rattle.part_schedules.specs.Example.{ascending, permuted, case1Left, afterAllCommits, case3Left, case5Left}
 use Rattle.pricing_format.specs.Quoting.{quoting}
 use Rattle.pricing_format.specs.QuoteCall.{QuoteCall, PriceCall}
 use Rattle.quotes.specs.Answer.{quoteOfAnswer}
@@ -65,6 +65,10 @@ laterText = textOf (crashesLater .ticket)
 -- Case 6's text.
 unfoldable pub silentText : List ℕ
 silentText = textOf (case6 .ticket)
+
+-- Case 5's text.
+unfoldable pub reachedText : List ℕ
+reachedText = textOf (case5 .ticket)
 
 -- Two texts are accepted, and paired line by line and in what they describe; process 2 decides in the first in round r and in the second in round s.
 pub record PairMet (a b : List ℕ) (r s : ℕ) : Type 0 where
@@ -182,9 +186,11 @@ pub record Witnesses : Type 0 where
   -- after round 1 of two process 4 has decided, and prices by its nine bytes; process 2 is open, and cannot yet
   pub quotedMeanwhile : PricedMeanwhile crashText (100000 ∷ []) 1 4 2 100100
   -- case 1 in two orders, and case 3, with which it is paired, in one of them
-  pub played : PlayedMet crashText ascending case1Ends
-  pub playedOtherwise : PlayedMet crashText (passingSchedule afterOneCommit named) case1Ends
-  pub playedPaired : PlayedMet moreCommitsText (passingSchedule afterAllCommits named) case3Ends
+  pub played : PlayedMet crashText ascending case1Left
+  pub playedOtherwise : PlayedMet crashText (passingSchedule afterOneCommit permuted) case1Left
+  pub playedPaired : PlayedMet moreCommitsText (passingSchedule afterAllCommits permuted) case3Left
+  -- case 5 in these orders, and beside it case 1 as another tender (part_schedules/specs/Example, `mixed`)
+  pub playedBeside : PlayedMet reachedText (passingSchedule dataToTheLast permuted) case5Left
   -- a buffer of 100 bytes is too short for it, and one of 101 is not
   pub short : RunCall crashText (replicate 100 165) (replicate 100 165) (refusalCode 9 0)
   pub fits : RunCall crashText (replicate 101 165) (textOf (case1 .output)) 101

@@ -1,32 +1,36 @@
 -- Paper 14 on one tender: every schedule in order leaves what the base's host has after as many rounds, by induction over the rounds; so it ends as the run says
 -- (`any-order`, `orders-no-later`). For well-formed instances. Assumes nothing else.
 use mathlib.Core.List.{List, [], _∷_, map}
+use mathlib.Core.Bool.{true}
 use mathlib.Core.Path.{_≡_, refl, sym, ap, _∙_}
 use Prim.Native.Nat.{ℕ, suc, _+_, _≤_}
 use native.Mathlib.Numerals.{unary-clauses}
 use native.Mathlib.Omega.{arith}
 use lib.ListN.{length}
-use Rattle.consensus.specs.Instance.{Instance}
-use Rattle.consensus.specs.State.{State}
+use Rattle.general.proofs.Tests.{both}
+use Rattle.consensus.specs.Instance.{Instance, Fault, faultOf}
+use Rattle.consensus.specs.State.{State, crashesIn}
 use Rattle.consensus.specs.Consensus.{IsProcess, UniformConsensus, NoLater}
 use Rattle.coordinator.specs.Pairing.{Paired}
 use Rattle.coordinator.specs.Run.{runOf, endOf}
 use Rattle.coordinator.specs.WellFormed.{WellFormed}
-use Rattle.part_host.specs.Part.{Part, partOf}
-use Rattle.part_host.specs.Host.{partsTo, partsOf, endPartOf}
+use Rattle.part_host.specs.Part.{Part, up, crashedIn, partOf, bytesKept}
+use Rattle.part_host.specs.Hearing.{heard}
+use Rattle.part_host.specs.Host.{partAfter, partsTo, partsOf, endPartOf}
+use Rattle.part_host.proofs.Places.{part-after}
 use Rattle.part_host.specs.PartEnds.{endByPart, latestByParts}
 use Rattle.part_host.proofs.Alike.{Alike, bothOpen, bothOver, bothDecided, bothCrashed}
 use Rattle.part_host.proofs.DecideAlike.{parts-alike}
 use Rattle.part_host.proofs.PartsConsensus.{parts-consensus, parts-no-later}
-use Rattle.part_schedules.specs.Steps.{start, lent, play}
-use Rattle.part_schedules.specs.Schedule.{RoundOrder, Schedule, roundSteps, stepsOfRounds, scheduleSteps, played, RoundsInOrder, InOrder}
+use Rattle.part_schedules.specs.Steps.{Hosted, start, unstarted, play}
+use Rattle.part_schedules.specs.Schedule.{RoundOrder, Schedule, roundSteps, stepsOfRounds, scheduleSteps, played, upAndOpen, crashesNow, EachOnce, RoundInOrder, RoundsInOrder, InOrder}
 use Rattle.part_schedules.specs.Answers.{AllAnswered}
 use Rattle.part_schedules.specs.ByRun.{valueHeld, estimateIn, partByEnd, partByRun}
-use Rattle.part_schedules.specs.AnyOrder.{Whole, endsBy, latestBy, AnyOrder}
+use Rattle.part_schedules.specs.AnyOrder.{Whole, EnoughRounds, endsBy, latestBy, AnyOrder}
 use Rattle.part_schedules.proofs.Phases.{play-append}
-use Rattle.part_schedules.proofs.Waiting.{none-waits, ended-parts}
+use Rattle.part_schedules.proofs.Waiting.{none-open, ended-parts}
 use Rattle.part_schedules.proofs.Round.{atRound, round-in-order}
-use Rattle.part_schedules.proofs.Starts.{started-in-order}
+use Rattle.part_schedules.proofs.Starts.{unstarted-nine, started-in-order}
 use Rattle.part_schedules.proofs.StartsAnswered.{answered-append, starts-answered}
 use Rattle.part_schedules.proofs.RoundAnswered.{round-answered}
 
@@ -37,6 +41,13 @@ by-end x p (bothOpen within) = absurd (let z : ⊥ = omega arith in z)
 by-end x p (bothOver over) = refl
 by-end x p bothDecided = refl
 by-end x p (bothCrashed began) = simp (unary-clauses, began)
+
+-- An open part that crashes.
+crash-left : (r : ℕ) (own : Fault) (frames : List ℕ) (part : Part) → upAndOpen part ≡ true → crashesIn r own ≡ true
+    → partAfter r own frames part ≡ crashedIn r (bytesKept part)
+unfolding upAndOpen partAfter bytesKept
+crash-left r own frames (up b) opens line = rw (opens, line) refl
+crash-left r own frames (crashedIn j b) opens line = absurd (let z : _≡_ {A = ℕ} 0 1 = cc in let w : ⊥ = omega arith in w)
 
 module _ (x : Instance) (formed : WellFormed x) where
   rounds-played : (orders : List RoundOrder) (r : ℕ) → RoundsInOrder x (atRound x r) orders
@@ -50,34 +61,56 @@ module _ (x : Instance) (formed : WellFormed x) where
         answered-append x (roundSteps order) (stepsOfRounds orders) (atRound x r) (round-answered x formed r order (ordered .0)) (rw one answered),
       )
 
+  -- A process that crashes in round r + 1 keeps the bytes with which it began.
+  crash-kept : (r : ℕ) (order : RoundOrder) → RoundInOrder x (atRound x r) order → (p : ℕ) → IsProcess x p → crashesNow x (atRound x r) p ≡ true
+      → partOf (play x (roundSteps order) (atRound x r) .parts) p ≡ crashedIn (suc r) (bytesKept (partOf (partsTo x r) p))
+  unfolding crashesNow
+  crash-kept r order ordered p process crashing =
+      let (opens, line) = both (upAndOpen (partOf (partsTo x r) p)) _ crashing in
+      ap (λ (h : Hosted). partOf (h .parts) p) (round-in-order x formed r order ordered)
+      ∙ part-after x p (process .first) (omega (arith, formed .all-propose)) r
+      ∙ crash-left (suc r) (faultOf x p) (heard x (suc r) p (partsTo x r)) (partOf (partsTo x r) p) opens line
+
+  started-unstarted : (order : List ℕ) → EachOnce x order → play x (map start order) (unstarted x) ≡ atRound x 0
+  unfolding unstarted
+  started-unstarted order all = started-in-order x formed order all (unstarted x .parts) (unstarted-nine x)
+
   module _ (s : Schedule) (ordered : InOrder x s) where
-    started : play x (map start (s .starting)) (lent x) ≡ atRound x 0
-    started = started-in-order x formed (s .starting) (ordered .starts)
+    started : play x (map start (s .starting)) (unstarted x) ≡ atRound x 0
+    started = started-unstarted (s .starting) (ordered .starts)
 
     all-rounds : (play x (stepsOfRounds (s .rounds)) (atRound x 0) ≡ atRound x (length (s .rounds) + 0))
         × AllAnswered x (atRound x 0) (stepsOfRounds (s .rounds))
     all-rounds = rounds-played (s .rounds) 0 (rw started at (ordered .rounds))
 
-    schedule-played : played x s .parts ≡ partsTo x (length (s .rounds))
+    schedule-kept : played x s ≡ atRound x (length (s .rounds))
     unfolding played scheduleSteps
-    schedule-played =
-        ap (λ h. h .parts) (play-append x (map start (s .starting)) (stepsOfRounds (s .rounds)) (lent x) ∙ ap (play x (stepsOfRounds (s .rounds))) started ∙ all-rounds .0)
-        ∙ ap (partsTo x) (omega arith)
+    schedule-kept =
+        play-append x (map start (s .starting)) (stepsOfRounds (s .rounds)) (unstarted x) ∙ ap (play x (stepsOfRounds (s .rounds))) started
+        ∙ all-rounds .0 ∙ ap (atRound x) (omega arith)
 
-    schedule-answered : AllAnswered x (lent x) (scheduleSteps s)
+    schedule-played : played x s .parts ≡ partsTo x (length (s .rounds))
+    schedule-played = ap (λ (h : Hosted). h .parts) schedule-kept
+
+    -- One round more, in which a process crashes.
+    crash-keeps : (order : RoundOrder) → RoundInOrder x (played x s) order → (p : ℕ) → IsProcess x p → crashesNow x (played x s) p ≡ true
+        → partOf (play x (roundSteps order) (played x s) .parts) p ≡ crashedIn (played x s .round) (bytesKept (partOf (played x s .parts) p))
+    crash-keeps order more p process = rw schedule-kept (crash-kept (length (s .rounds)) order (rw schedule-kept at more) p process)
+
+    schedule-answered : AllAnswered x (unstarted x) (scheduleSteps s)
     unfolding scheduleSteps
     schedule-answered =
-        answered-append x (map start (s .starting)) (stepsOfRounds (s .rounds)) (lent x) (starts-answered x formed (s .starting) (ordered .starts))
+        answered-append x (map start (s .starting)) (stepsOfRounds (s .rounds)) (unstarted x) (starts-answered x formed (s .starting) (ordered .starts))
         (rw started (all-rounds .1))
 
-    rounds-through : runOf x .rounds ≤ length (s .rounds) → Whole x s
-    rounds-through through = record { inOrder = ordered; noneWaits = rw schedule-played (none-waits x formed (length (s .rounds)) through) }
+    rounds-through : EnoughRounds x s → Whole x s
+    rounds-through through = record { inOrder = ordered; noneOpen = rw schedule-played (none-open x formed (length (s .rounds)) (through .enough)) }
 
   -- A whole schedule leaves the parts of the end.
   whole-parts : (s : Schedule) → Whole x s → played x s .parts ≡ partsOf x
   whole-parts s whole =
       let as-host = schedule-played s (whole .inOrder) in
-      as-host ∙ ended-parts x formed (length (s .rounds)) (rw as-host at (whole .noneWaits))
+      as-host ∙ ended-parts x formed (length (s .rounds)) (rw as-host at (whole .noneOpen))
 
   end-by-run : (p : ℕ) → IsProcess x p → partOf (partsOf x) p ≡ partByRun x p
   unfolding partByRun partsOf endOf runOf
@@ -95,6 +128,9 @@ module _ (x : Instance) (formed : WellFormed x) where
   any-order =
       record {
         afterRounds = schedule-played;
+        anyBytes = λ parts nine order all.
+            started-in-order x formed order all parts nine ∙ sym (started-unstarted order all);
+        crashKeeps = λ s order ordered. crash-keeps s ordered order;
         through = rounds-through;
         byRun = λ s whole p process. rw (whole-parts s whole) (end-by-run p process);
         alike = λ s u whole whole′. whole-parts s whole ∙ sym (whole-parts u whole′);

@@ -7,8 +7,9 @@ pub mod Starts
 pub mod Refused
 pub mod StartsAnswered
 pub mod RoundAnswered
+pub mod EndedCalls
 pub mod AnyOrder
 pub mod Tenders
-pub mod EveryOrder
+pub mod Permutations
 pub mod Example
 pub mod WrongOrders

@@ -4,13 +4,13 @@ use mathlib.Core.Path.{_≡_, refl, sym, ap, _∙_}
 use Prim.Native.Nat.{ℕ}
 use lib.Seq.{append-snoc}
 use Rattle.consensus.specs.Instance.{Instance}
-use Rattle.part_host.specs.Part.{Part, partOf, yielded}
-use Rattle.part_schedules.specs.Steps.{Spoken, Hosted, Step, start, speak, close, heardOf, startedWith, closedWith, step, play}
+use Rattle.part_host.specs.Part.{Part, partOf}
+use Rattle.part_schedules.specs.Steps.{Spoken, Hosted, Step, start, speak, close, heardOf, startedWith, framesYielded, closedWith, step, play}
 use Rattle.part_schedules.proofs.Turns.{changedInTurn}
 
 -- What process p yields, as its host keeps it.
 abbrev pub said : List Part → ℕ → Spoken
-said parts p = record { sender = p; frames = yielded (partOf parts p) }
+said parts p = record { sender = p; frames = framesYielded (partOf parts p) }
 
 module _ (x : Instance) where
   pub play-append : (a b : List Step) (h : Hosted) → play x (a ++ b) h ≡ play x b (play x a h)

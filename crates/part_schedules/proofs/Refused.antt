@@ -23,11 +23,7 @@ use Rattle.part_host.specs.DecideAlike.{partState, partBytes, EndsAs}
 use Rattle.part_host.proofs.Alike.{identity, Alike, bothOpen, bothOver, bothDecided, bothCrashed}
 use Rattle.part_host.proofs.DecideAlike.{parts-alike, parts-decide-alike}
 use Rattle.part_host.proofs.Kept.{kept-decided}
-use Rattle.part_schedules.proofs.Waiting.{beyond-last}
-
-refused-11 : (b : List ℕ) → ValidBytes b → isOpen b ≡ false → stateRefusal b ≡ 11
-unfolding stateRefusal isOpen
-refused-11 b valid ended = rw (valid .nine, valid .valid, ended) refl
+use Rattle.part_schedules.proofs.Waiting.{refused-11, beyond-last}
 
 module _ (x : Instance) (formed : WellFormed x) where
   -- The bytes of a process that has decided.

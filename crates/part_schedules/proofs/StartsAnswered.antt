@@ -16,11 +16,12 @@ use Rattle.part_format.proofs.Valid.{identity-holds}
 use Rattle.part_host.specs.Part.{Part, up, partOf, bytesKept}
 use Rattle.part_host.specs.Host.{blank}
 use Rattle.part_host.proofs.Alike.{identity}
-use Rattle.part_schedules.specs.Steps.{Spoken, Hosted, Step, start, roundOver, lent, startedWith, changedAt, step, play}
-use Rattle.part_schedules.specs.Schedule.{times, EachOnce}
-use Rattle.part_schedules.specs.Answers.{answers, due, Answered, AllAnswered}
+use Rattle.part_schedules.specs.Steps.{Spoken, Hosted, Step, start, roundOver, unstarted, withBytes, startedWith, changedAt, step, play}
+use Rattle.part_schedules.specs.Schedule.{timesCalled, EachOnce}
+use Rattle.part_schedules.specs.Answers.{answers, due, Answered, AllAnswered, allAnswers, allDue}
+use Rattle.part_schedules.specs.AnyOrder.{NineBytes}
 use Rattle.part_schedules.proofs.Turns.{times-more, times-first, length-changed, changed-at}
-use Rattle.part_schedules.proofs.Starts.{part-lent, length-lent}
+use Rattle.part_schedules.proofs.Starts.{unstarted-nine}
 
 -- One number is another if they are all that two lists hold.
 pub only-number : (a b : ℕ) → a ∷ [] ≡ b ∷ [] → a ≡ b
@@ -37,11 +38,13 @@ module _ (x : Instance) where
   unfolding AllAnswered answers due
   over-answered h = (record { number = refl; stays = λ e. cc; silent = λ e r p. cc }, tt)
 
-module _ (x : Instance) (formed : WellFormed x) where
-  -- The part of each process is up, with nine bytes.
-  abbrev Lent : List Part → Type 0
-  Lent parts = (p : ℕ) → IsProcess x p → (b : List ℕ) × (partOf parts p ≡ up b) × (length b ≡ 9)
+  -- What is answered is what is due.
+  pub answers-due : (steps : List Step) (h : Hosted) → AllAnswered x h steps → allAnswers x h steps ≡ allDue x h steps
+  unfolding AllAnswered allAnswers allDue
+  answers-due [] h answered = refl
+  answers-due (one ∷ steps) h answered = rw (answered .0 .number, answers-due steps (step x one h) (answered .1)) refl
 
+module _ (x : Instance) (formed : WellFormed x) where
   module _ (p : ℕ) (process : IsProcess x p) (b : List ℕ) (nine : length b ≡ 9) where
     start-taken : startRefusal p (x .processes) (x .resilience) b ≡ 0
     unfolding startRefusal
@@ -51,36 +54,37 @@ module _ (x : Instance) (formed : WellFormed x) where
     unfolding startBytes stateBytes startState bytesOf
     start-nine v = rw start-taken refl
 
-  start-answered : (h : Hosted) (p : ℕ) → IsProcess x p → Lent (h .parts) → Answered x h (start p)
+  start-answered : (h : Hosted) (p : ℕ) → IsProcess x p → NineBytes x (h .parts) → Answered x h (start p)
   unfolding answers due bytesKept
   start-answered h p process nine =
-      let (b, has, size) = nine p process in
+      let (b, has, size) = nine .each p process in
       record {
         number = rw (has, start-taken p process b size) refl;
         stays = λ e. absurd (let z : _≡_ {A = ℕ} 0 11 = only-number 0 11 e in let w : ⊥ = omega arith in w);
         silent = λ e. absurd (let z : _≡_ {A = ℕ} 0 11 = only-number 0 11 e in let w : ⊥ = omega arith in w);
       }
 
-  stays-lent : (q : ℕ) (parts : List Part) → length parts ≡ x .processes → Lent parts → Lent (changedAt q (startedWith x q) parts)
-  unfolding startedWith
-  stays-lent q parts many nine p process =
-      let (b, has, size) = nine p process in
-      let at = changed-at q (startedWith x q) parts p (process .first) (omega (arith, many)) in
-      by-equal p q
-      (λ same. (startBytes p (x .processes) (x .resilience) (proposalOf x p) b, rw (at, eq-eqb p q same, has, ← same) refl, start-nine p process b size _))
-      (λ other. (b, rw (at, ne-eqb p q other) has, size))
+  stays-nine : (q : ℕ) (parts : List Part) → NineBytes x parts → NineBytes x (changedAt q (startedWith x q) parts)
+  unfolding startedWith withBytes
+  stays-nine q parts nine = record { many = length-changed q (startedWith x q) parts ∙ nine .many; each = at-process }
+    where
+      at-process : (p : ℕ) → IsProcess x p → (b : List ℕ) × (partOf (changedAt q (startedWith x q) parts) p ≡ up b) × (length b ≡ 9)
+      at-process p process =
+          let (b, has, size) = nine .each p process in
+          let at = changed-at q (startedWith x q) parts p (process .first) (omega (arith, nine .many)) in
+          by-equal p q
+          (λ same. (startBytes p (x .processes) (x .resilience) (proposalOf x p) b, rw (at, eq-eqb p q same, has, ← same) refl, start-nine p process b size _))
+          (λ other. (b, rw (at, ne-eqb p q other) has, size))
 
-  all-starts : (order : List ℕ) (parts : List Part) (S : List Spoken) → length parts ≡ x .processes → Lent parts
-      → ((p : ℕ) → 1 ≤ times p order → IsProcess x p) → AllAnswered x (record { round = 1; parts = parts; spoken = S }) (map start order)
+  all-starts : (order : List ℕ) (parts : List Part) (S : List Spoken) → NineBytes x parts
+      → ((p : ℕ) → 1 ≤ timesCalled p order → IsProcess x p) → AllAnswered x (record { round = 1; parts = parts; spoken = S }) (map start order)
   unfolding AllAnswered step
-  all-starts [] parts S many nine called = tt
-  all-starts (q ∷ order) parts S many nine called = (
+  all-starts [] parts S nine called = tt
+  all-starts (q ∷ order) parts S nine called = (
     start-answered (record { round = 1; parts = parts; spoken = S }) q (called q (omega (arith, times-first q order))) nine,
-    all-starts order (changedAt q (startedWith x q) parts) S (length-changed q (startedWith x q) parts ∙ many) (stays-lent q parts many nine)
-        (λ p h. called p (times-more p q order h)),
+    all-starts order (changedAt q (startedWith x q) parts) S (stays-nine q parts nine) (λ p h. called p (times-more p q order h)),
   )
 
-  pub starts-answered : (order : List ℕ) → EachOnce x order → AllAnswered x (lent x) (map start order)
-  unfolding EachOnce lent blank
-  starts-answered order all =
-      all-starts order (lent x .parts) [] (length-lent x) (λ p process. (_, part-lent x p process, refl)) (λ p h. all .only p h .0)
+  pub starts-answered : (order : List ℕ) → EachOnce x order → AllAnswered x (unstarted x) (map start order)
+  unfolding EachOnce unstarted
+  starts-answered order all = all-starts order (unstarted x .parts) [] (unstarted-nine x) (λ p h. all .only p h .0)

@@ -46,7 +46,7 @@ of-all k i [] false e = refl
 of-all k i (one ∷ steps) true e = rw e (ap (λ (l : List Step). one ∷ l) (of-all k i steps true e))
 of-all k i (one ∷ steps) false e = rw e (of-all k i steps false e)
 
-either-order : (k i j : ℕ) → (i ≡ j → ⊥) → (a b : List Step) → ofTender k (allOf i a ++ allOf j b) ≡ ofTender k (allOf j b ++ allOf i a)
+pub either-order : (k i j : ℕ) → (i ≡ j → ⊥) → (a b : List Step) → ofTender k (allOf i a ++ allOf j b) ≡ ofTender k (allOf j b ++ allOf i a)
 either-order k i j apart a b =
     of-append k (allOf i a) (allOf j b) ∙ by-tests (eqb k i) (eqb k j) refl refl ∙ sym (of-append k (allOf j b) (allOf i a))
   where

@@ -11,23 +11,23 @@ use borrow.Author.Tests.{eqb-true, eq-eqb, ne-eqb}
 use Rattle.general.proofs.Indexed.{length-mapFrom, mapFrom-at, numbered-ext}
 use Rattle.part_host.specs.Part.{Part, crashedIn, partOf}
 use Rattle.part_schedules.specs.Steps.{changedAt}
-use Rattle.part_schedules.specs.Schedule.{times}
+use Rattle.part_schedules.specs.Schedule.{timesCalled}
 
 -- How often a process stands in an order that has one process more in front.
-pub times-more : (p q : ℕ) (order : List ℕ) → 1 ≤ times p order → 1 ≤ times p (q ∷ order)
-unfolding times
+pub times-more : (p q : ℕ) (order : List ℕ) → 1 ≤ timesCalled p order → 1 ≤ timesCalled p (q ∷ order)
+unfolding timesCalled
 times-more p q order h = by-test (eqb p q)
   where
-    by-test : (b : Bool) → 1 ≤ cond b (suc (times p order)) (times p order)
+    by-test : (b : Bool) → 1 ≤ cond b (suc (timesCalled p order)) (timesCalled p order)
     by-test true = omega arith
     by-test false = h
 
-pub times-first : (p : ℕ) (order : List ℕ) → times p (p ∷ order) ≡ suc (times p order)
-unfolding times
+pub times-first : (p : ℕ) (order : List ℕ) → timesCalled p (p ∷ order) ≡ suc (timesCalled p order)
+unfolding timesCalled
 times-first p order = rw (eq-eqb p p) refl
 
-pub times-other : (p q : ℕ) (order : List ℕ) → (p ≡ q → ⊥) → times p (q ∷ order) ≡ times p order
-unfolding times
+pub times-other : (p q : ℕ) (order : List ℕ) → (p ≡ q → ⊥) → timesCalled p (q ∷ order) ≡ timesCalled p order
+unfolding timesCalled
 times-other p q order other = rw (ne-eqb p q other) refl
 
 -- Lists of parts that are the same at each process are the same.
@@ -56,6 +56,16 @@ pub changed-at : (p : ℕ) (change : Part → Part) (parts : List Part) (q : ℕ
 unfolding changedAt partOf
 changed-at p change parts q first last = mapFrom-at _ parts q _ _ first last
 
+-- A change that leaves the part of its process leaves all.
+pub unchanged-at : (p : ℕ) (change : Part → Part) (parts : List Part) → change (partOf parts p) ≡ partOf parts p → changedAt p change parts ≡ parts
+unchanged-at p change parts stays =
+    parts-ext (length parts) _ _ (length-changed p change parts) refl
+    (λ q first last. changed-at p change parts q first last ∙ by-test q (eqb q p) refl)
+  where
+    by-test : (q : ℕ) (b : Bool) → eqb q p ≡ b → cond b (change (partOf parts q)) (partOf parts q) ≡ partOf parts q
+    by-test q true e = rw (eqb-true q p e) stays
+    by-test q false e = refl
+
 module _ (change : ℕ → Part → Part) where
   -- The parts of the processes of an order are changed, one after the other.
   unfoldable pub changedInTurn : List ℕ → List Part → List Part
@@ -68,16 +78,16 @@ module _ (change : ℕ → Part → Part) where
   length-in-turn (p ∷ order) parts = length-in-turn order (changedAt p (change p) parts) ∙ length-changed p (change p) parts
 
   pub in-turn : (order : List ℕ) (parts : List Part) (q : ℕ) → 1 ≤ q → q ≤ length parts
-      → partOf (changedInTurn order parts) q ≡ repeated (times q order) (change q) (partOf parts q)
-  unfolding changedInTurn times repeated
+      → partOf (changedInTurn order parts) q ≡ repeated (timesCalled q order) (change q) (partOf parts q)
+  unfolding changedInTurn timesCalled repeated
   in-turn [] parts q first last = refl
   in-turn (p ∷ order) parts q first last =
       in-turn order (changedAt p (change p) parts) q first (omega (arith, length-changed p (change p) parts))
-      ∙ ap (repeated (times q order) (change q)) (changed-at p (change p) parts q first last)
+      ∙ ap (repeated (timesCalled q order) (change q)) (changed-at p (change p) parts q first last)
       ∙ by-test (eqb q p) refl
     where
       by-test : (b : Bool) → eqb q p ≡ b
-          → repeated (times q order) (change q) (cond b (change p (partOf parts q)) (partOf parts q))
-          ≡ repeated (cond b (suc (times q order)) (times q order)) (change q) (partOf parts q)
+          → repeated (timesCalled q order) (change q) (cond b (change p (partOf parts q)) (partOf parts q))
+          ≡ repeated (cond b (suc (timesCalled q order)) (timesCalled q order)) (change q) (partOf parts q)
       by-test true e = rw (eqb-true q p e) refl
       by-test false e = refl

@@ -17,9 +17,10 @@ use Rattle.coordinator.specs.Run.{runTo, runOf}
 use Rattle.coordinator.specs.WellFormed.{WellFormed}
 use Rattle.coordinator.specs.RunRounds.{RunRounds}
 use Rattle.coordinator.proofs.RunRounds.{run-rounds}
-use Rattle.part_format.specs.PartState.{stateFrom, stateBytes}
-use Rattle.part_format.specs.Close.{closeState}
-use Rattle.part_host.specs.Part.{Part, up, crashedIn, partOf, isOpen, yielded}
+use Rattle.part_format.specs.PartState.{stateFrom, stateBytes, stateRefusal, ValidBytes}
+use Rattle.part_format.specs.Speak.{speakRefusal, speakAnswer}
+use Rattle.part_format.specs.Close.{closeRefusal, closeState}
+use Rattle.part_host.specs.Part.{Part, up, crashedIn, partOf, bytesKept, isOpen, yielded}
 use Rattle.part_host.specs.Hearing.{heard}
 use Rattle.part_host.specs.Host.{partAfter, partsAfter, partsTo, partsOf}
 use Rattle.part_host.specs.DecideAlike.{partState}
@@ -27,7 +28,8 @@ use Rattle.part_host.proofs.Places.{length-parts}
 use Rattle.part_host.proofs.Calls.{ended-silent, ended-stays}
 use Rattle.part_host.proofs.Alike.{Alike, bothOpen, bothOver, bothDecided, bothCrashed}
 use Rattle.part_host.proofs.DecideAlike.{parts-alike}
-use Rattle.part_schedules.specs.Schedule.{waits}
+use Rattle.part_schedules.specs.Steps.{framesYielded}
+use Rattle.part_schedules.specs.Schedule.{isUp, upAndOpen}
 use Rattle.part_schedules.proofs.Turns.{parts-ext}
 
 -- A part that is not open.
@@ -43,19 +45,44 @@ module _ (b : List ℕ) (ended : isOpen b ≡ false) where
   unfolding yielded
   ended-yields = ended-silent b marked
 
-pub waits-not-silent : (part : Part) → waits part ≡ false → yielded part ≡ []
-unfolding waits yielded
-waits-not-silent (up b) e = ended-yields b e
-waits-not-silent (crashedIn round b) e = refl
+-- One that is up yields what the base's host has it yield; and nothing, if it is not open.
+pub up-yields : (part : Part) → isUp part ≡ true → framesYielded part ≡ yielded part
+unfolding isUp framesYielded bytesKept yielded
+up-yields (up b) e = refl
+up-yields (crashedIn round b) e = cc
 
-after-stays : (r : ℕ) (x : Instance) (p : ℕ) (frames : List ℕ) (part : Part) → waits part ≡ false → partAfter r (faultOf x p) frames part ≡ part
-unfolding waits partAfter
+pub ended-yields-nothing : (part : Part) → upAndOpen part ≡ false → yielded part ≡ []
+unfolding upAndOpen yielded
+ended-yields-nothing (up b) e = ended-yields b e
+ended-yields-nothing (crashedIn round b) e = refl
+
+-- Who is open is up.
+pub open-up : (part : Part) → upAndOpen part ≡ true → isUp part ≡ true
+unfolding upAndOpen isUp
+open-up (up b) e = refl
+open-up (crashedIn round b) e = e
+
+after-stays : (r : ℕ) (x : Instance) (p : ℕ) (frames : List ℕ) (part : Part) → upAndOpen part ≡ false → partAfter r (faultOf x p) frames part ≡ part
+unfolding upAndOpen partAfter
 after-stays r x p frames (up b) e = rw (e, closed-stays b e frames) refl
 after-stays r x p frames (crashedIn round b) e = refl
 
+-- Its calls are refused with 11, if its state is valid.
+pub refused-11 : (b : List ℕ) → ValidBytes b → isOpen b ≡ false → stateRefusal b ≡ 11
+unfolding stateRefusal isOpen
+refused-11 b valid ended = rw (valid .nine, valid .valid, ended) refl
+
+pub speak-refused : (b : List ℕ) → stateRefusal b ≡ 11 → (room : ℕ) → speakAnswer b room ≡ 11
+unfolding speakAnswer speakRefusal
+speak-refused b e room = rw e refl
+
+pub close-refused-11 : (b : List ℕ) → stateRefusal b ≡ 11 → (heard : List ℕ) → closeRefusal b heard ≡ 11
+unfolding closeRefusal
+close-refused-11 b e heard = rw e refl
+
 -- No process is open.
-abbrev pub NoneWaits : Instance → List Part → Type 0
-NoneWaits x parts = (p : ℕ) → IsProcess x p → waits (partOf parts p) ≡ false
+abbrev pub NoneOpen : Instance → List Part → Type 0
+NoneOpen x parts = (p : ℕ) → IsProcess x p → upAndOpen (partOf parts p) ≡ false
 
 -- Where no process is undecided, none in particular is.
 none-undecided : (states : List State) (k v : ℕ) → anyUndecided states ≡ false → getD states k (crashed 0) ≡ undecided v → ⊥
@@ -74,28 +101,28 @@ module _ (x : Instance) (formed : WellFormed x) where
   as-many r = length-parts x r ∙ formed .all-propose
 
   -- Where no process is open, rounds change nothing.
-  round-stays : (r : ℕ) → NoneWaits x (partsTo x r) → partsTo x (suc r) ≡ partsTo x r
+  round-stays : (r : ℕ) → NoneOpen x (partsTo x r) → partsTo x (suc r) ≡ partsTo x r
   unfolding partsTo partsAfter partOf
   round-stays r none =
       parts-ext (x .processes) (partsAfter x (suc r) (partsTo x r)) (partsTo x r) (length-mapFrom _ 1 (partsTo x r) ∙ as-many r) (as-many r)
       (λ p first last. mapFrom-at _ (partsTo x r) p _ _ first (omega (arith, as-many r))
       ∙ after-stays (suc r) x p (heard x (suc r) p (partsTo x r)) (partOf (partsTo x r) p) (none p (record { first = first; last = last })))
 
-  pub rounds-stay : (d r : ℕ) → NoneWaits x (partsTo x r) → partsTo x (d + r) ≡ partsTo x r
+  pub rounds-stay : (d r : ℕ) → NoneOpen x (partsTo x r) → partsTo x (d + r) ≡ partsTo x r
   rounds-stay zero r none = ap (partsTo x) (omega arith)
   rounds-stay (suc d) r none =
       let before = rounds-stay d r none in
       ap (partsTo x) (omega arith) ∙ round-stays (d + r) (rw before none) ∙ before
 
   -- After round t + 1 no process is open; nor is one after the rounds of the run.
-  alike-waits : (r p : ℕ) {s : State} {part : Part} → Alike x r p s part → ((v : ℕ) → s ≡ undecided v → r ≤ x .resilience → ⊥) → waits part ≡ false
-  unfolding waits isOpen stateFrom stateBytes partState
+  alike-waits : (r p : ℕ) {s : State} {part : Part} → Alike x r p s part → ((v : ℕ) → s ≡ undecided v → r ≤ x .resilience → ⊥) → upAndOpen part ≡ false
+  unfolding upAndOpen isOpen stateFrom stateBytes partState
   alike-waits r p (bothOpen {v} within) h = absurd (h v refl within)
   alike-waits r p (bothOver _) h = refl
   alike-waits r p bothDecided h = refl
   alike-waits r p (bothCrashed _) h = refl
 
-  last-ended : NoneWaits x (partsTo x (suc (x .resilience)))
+  last-ended : NoneOpen x (partsTo x (suc (x .resilience)))
   last-ended p process = alike-waits (suc (x .resilience)) p (parts-alike x formed (suc (x .resilience)) p (omega arith) process) (λ v e within. omega arith)
 
   -- After any number of rounds that is not below t + 1 the parts are the same.
@@ -105,24 +132,24 @@ module _ (x : Instance) (formed : WellFormed x) where
       ∙ rounds-stay (r - suc (x .resilience)) (suc (x .resilience)) last-ended
 
   -- A process that is open is so before a round of the run.
-  pub waits-within : (r p : ℕ) → IsProcess x p → waits (partOf (partsTo x r) p) ≡ true → r ≤ x .resilience
-  waits-within r p process e =
+  pub open-within : (r p : ℕ) → IsProcess x p → upAndOpen (partOf (partsTo x r) p) ≡ true → r ≤ x .resilience
+  open-within r p process e =
       by-order r (x .resilience) (λ low. low)
-      (λ high. let ended : waits (partOf (partsTo x r) p) ≡ false = rw (beyond-last r high) (last-ended p process) in
+      (λ high. let ended : upAndOpen (partOf (partsTo x r) p) ≡ false = rw (beyond-last r high) (last-ended p process) in
       absurd (let z : _≡_ {A = ℕ} 0 1 = cc in let w : ⊥ = omega arith in w))
 
-  run-ended : (r : ℕ) → r ≤ x .resilience → runOf x .rounds ≤ r → NoneWaits x (partsTo x r)
+  run-ended : (r : ℕ) → r ≤ x .resilience → runOf x .rounds ≤ r → NoneOpen x (partsTo x r)
   unfolding RunRounds runOf stateOf
   run-ended r low through p process =
       let none : anyUndecided (runTo x r .states) ≡ false = run-rounds x r (suc (x .resilience)) (omega arith) ∙ lt-leb (suc r) _ (omega arith) in
       alike-waits r p (parts-alike x formed r p (omega arith) process) (λ v e within. none-undecided (runTo x r .states) (p - 1) v none e)
 
-  pub none-waits : (r : ℕ) → runOf x .rounds ≤ r → NoneWaits x (partsTo x r)
-  none-waits r through =
+  pub none-open : (r : ℕ) → runOf x .rounds ≤ r → NoneOpen x (partsTo x r)
+  none-open r through =
       by-order r (x .resilience) (λ low. run-ended r low through) (λ high. rw (beyond-last r high) last-ended)
 
   -- Where no process is open, the parts are those of the end.
-  pub ended-parts : (r : ℕ) → NoneWaits x (partsTo x r) → partsTo x r ≡ partsOf x
+  pub ended-parts : (r : ℕ) → NoneOpen x (partsTo x r) → partsTo x r ≡ partsOf x
   unfolding partsOf
   ended-parts r none =
       by-order r (x .resilience)

@@ -12,14 +12,26 @@ use Rattle.part_format.specs.Frame.{dataFrame, commitFrame, framesOf, isDataFra
 use Rattle.part_format.specs.Start.{startRefusal, startState, startBytes}
 use Rattle.part_format.specs.Speak.{spokenBy, speakRefusal, speakYields, speakAnswer}
 use Rattle.part_format.specs.Close.{stateAfter, closedOn, heardRefusal, closeRefusal, closeOnHeard, closeState}
-use Rattle.part_host.specs.Part.{partOf, bytesKept, isOpen, outputRoom, yielded}
+use Rattle.part_host.specs.Part.{partOf, bytesKept, isOpen, outputRoom}
 use Rattle.part_host.specs.Hearing.{bytesReaching, reachFrom, letThrough}
 use Rattle.part_host.specs.Host.{blank}
-use Rattle.part_schedules.specs.Steps.{lent, heardOf, startedWith, closedWith, leftAfter, changedAt, step, play}
+use Rattle.part_schedules.specs.Steps.{unstarted, heardOf, withBytes, startedWith, framesYielded, closedWith, leftAfter, changedAt, step, play}
 use Rattle.part_schedules.specs.Answers.{answers, allAnswers}
 use Rattle.consensus.specs.Instance.{withinLimits, proposalOf, faultOf}
-use Rattle.part_schedules.specs.WrongOrders.{partsAfterSteps, closedEarly, TwoValues, crashingCloses, CrashedDecides, coordinatorSilent, NotHeard, silentFirst, closedTwice, RoundAhead, WrongOrders}
+use Rattle.part_schedules.specs.WrongOrders.{partsAfterSteps, answersToSteps, closedEarly, TwoValues, crashingCloses, CrashedDecides, coordinatorSilent, NotHeard, crashedComesBack, CameBack, closedTwice, RoundAhead, leftOpen, RoundBehind, spokenTwice, HeardTwice, startedAgain, DecisionLost, NotStarted, WrongOrders}
+use Rattle.part_schedules.specs.Example.{silentFirst}
 
 pub wrong-orders : WrongOrders
-unfolding partsAfterSteps closedEarly TwoValues crashingCloses CrashedDecides coordinatorSilent NotHeard silentFirst closedTwice RoundAhead digitsIn paired bytesIn speakAnswer heardRefusal closeRefusal bytesKept answers allAnswers four firstCrashes afterOneCommit number numberFrom bytesOf mapFrom withinLimits proposalOf faultOf sends receives amongFirst reachAt reachIn crashesIn stateBytes stateFrom identityValid roundValid fieldsValid stateValid stateRefusal isOwnRound dataFrame commitFrame framesOf isDataFrame isCommitFrame messagesFrom startRefusal startState startBytes spokenBy speakRefusal speakYields heardBy stateAfter closedOn closeOnHeard closeState partOf isOpen outputRoom yielded bytesReaching reachFrom letThrough blank lent heardOf startedWith closedWith leftAfter changedAt step play
-wrong-orders = record { closedBeforeAllSpoke = refl; closedThoughCrashing = refl; closedUnspoken = refl; closedAgain = (refl, refl) }
+unfolding partsAfterSteps closedEarly TwoValues crashingCloses CrashedDecides coordinatorSilent NotHeard silentFirst crashedComesBack CameBack closedTwice RoundAhead leftOpen RoundBehind spokenTwice HeardTwice startedAgain DecisionLost NotStarted answersToSteps digitsIn paired bytesIn speakAnswer heardRefusal closeRefusal answers allAnswers four firstCrashes afterOneCommit number numberFrom bytesOf mapFrom withinLimits proposalOf faultOf sends receives amongFirst reachAt reachIn crashesIn stateBytes stateFrom identityValid roundValid fieldsValid stateValid stateRefusal isOwnRound dataFrame commitFrame framesOf isDataFrame isCommitFrame messagesFrom startRefusal startState startBytes spokenBy speakRefusal speakYields heardBy stateAfter closedOn closeOnHeard closeState partOf isOpen outputRoom bytesKept bytesReaching reachFrom letThrough blank unstarted heardOf withBytes startedWith framesYielded closedWith leftAfter changedAt step play
+wrong-orders =
+    record {
+      closedBeforeAllSpoke = refl;
+      closedThoughCrashing = refl;
+      closedUnspoken = refl;
+      closedThoughCrashed = refl;
+      closedAgain = (refl, refl);
+      notClosed = refl;
+      spokeAgain = refl;
+      startedTwice = refl;
+      notStarted = refl;
+    }

@@ -8,9 +8,9 @@ use Rattle.consensus.specs.Instance.{Instance}
 use Rattle.part_format.specs.Start.{startRefusal}
 use Rattle.part_format.specs.Speak.{speakAnswer}
 use Rattle.part_format.specs.Close.{closeRefusal}
-use Rattle.part_host.specs.Part.{partOf, bytesKept, yielded, outputRoom}
-use Rattle.part_schedules.specs.Steps.{Hosted, Step, start, speak, close, roundOver, heardOf, step}
-use Rattle.part_schedules.specs.Schedule.{waits}
+use Rattle.part_host.specs.Part.{partOf, bytesKept, outputRoom}
+use Rattle.part_schedules.specs.Steps.{Hosted, Step, start, speak, close, roundOver, heardOf, framesYielded, step}
+use Rattle.part_schedules.specs.Schedule.{upAndOpen}
 
 -- The number that a call answers. The end of a round is no call.
 unfoldable pub answers : Instance → Hosted → Step → List ℕ
@@ -22,8 +22,8 @@ answers x h roundOver = []
 -- The number that is due: a start and a close are answered 0, speaking the count of bytes yielded; where the process is not open, 11.
 unfoldable pub due : Hosted → Step → List ℕ
 due h (start p) = 0 ∷ []
-due h (speak p) = cond (waits (partOf (h .parts) p)) (length (yielded (partOf (h .parts) p))) 11 ∷ []
-due h (close p) = cond (waits (partOf (h .parts) p)) 0 11 ∷ []
+due h (speak p) = cond (upAndOpen (partOf (h .parts) p)) (length (framesYielded (partOf (h .parts) p))) 11 ∷ []
+due h (close p) = cond (upAndOpen (partOf (h .parts) p)) 0 11 ∷ []
 due h roundOver = []
 
 -- One call, or the end of a round: it is answered what is due; and where that is 11, every part stays as it was, and nobody hears more.
@@ -37,7 +37,11 @@ unfoldable pub AllAnswered : Instance → Hosted → List Step → Type 0
 AllAnswered x h [] = Unit
 AllAnswered x h (one ∷ steps) = Answered x h one × AllAnswered x (step x one h) steps
 
--- All numbers that are answered, in order.
+-- All numbers that are answered, in order, and all that are due.
 unfoldable pub allAnswers : Instance → Hosted → List Step → List ℕ
 allAnswers x h [] = []
 allAnswers x h (one ∷ steps) = answers x h one ++ allAnswers x (step x one h) steps
+
+unfoldable pub allDue : Instance → Hosted → List Step → List ℕ
+allDue x h [] = []
+allDue x h (one ∷ steps) = due h one ++ allDue x (step x one h) steps

@@ -2,8 +2,9 @@ pub mod Steps
 pub mod Schedule
 pub mod Answers
 pub mod ByRun
+pub mod EndedCalls
 pub mod AnyOrder
 pub mod Tenders
-pub mod EveryOrder
+pub mod Permutations
 pub mod Example
 pub mod WrongOrders

@@ -8,8 +8,9 @@ use Rattle.general.specs.Indexed.{mapFrom}
 use Rattle.consensus.specs.Instance.{Instance, Fault, proposalOf, faultOf}
 use Rattle.consensus.specs.State.{crashesIn}
 use Rattle.part_format.specs.Start.{startBytes}
+use Rattle.part_format.specs.Speak.{speakYields}
 use Rattle.part_format.specs.Close.{closeState}
-use Rattle.part_host.specs.Part.{Part, up, crashedIn, partOf, isOpen, yielded}
+use Rattle.part_host.specs.Part.{Part, up, crashedIn, partOf, bytesKept, isOpen, outputRoom}
 use Rattle.part_host.specs.Hearing.{letThrough}
 use Rattle.part_host.specs.Host.{blank}
 
@@ -31,23 +32,30 @@ pub data Step : Type 0 where
   close : (p : ℕ) → Step
   roundOver : Step
 
--- Before any call: nine bytes are lent to each part.
-unfoldable pub lent : Instance → Hosted
-lent x = record { round = 1; parts = replicate (x .processes) (up blank); spoken = [] }
+-- Before any call: nine bytes are lent to each part, here zeros. (What they are makes no difference, which is proved.)
+unfoldable pub unstarted : Instance → Hosted
+unstarted x = record { round = 1; parts = replicate (x .processes) (up blank); spoken = [] }
 
 -- What process p hears in round r of what was yielded, in the order of speaking.
 unfoldable pub heardOf : Instance → (r p : ℕ) → List Spoken → List ℕ
 heardOf x r p [] = []
 heardOf x r p (one ∷ others) = letThrough x r (one .sender) p (one .frames) ++ heardOf x r p others
 
--- A part that is called to start with its process's proposal; one that is called to close on these frames. A crashed part is not called.
+-- A part whose bytes a call changes. A call does with the bytes what its contract says, also if the process has crashed; that such a one is not called is a
+-- condition on schedules.
+unfoldable pub withBytes : (List ℕ → List ℕ) → Part → Part
+withBytes change (up b) = up (change b)
+withBytes change (crashedIn round b) = crashedIn round (change b)
+
+-- A part that is called to start, with its process's proposal; what one yields that is called to speak; one that is called to close on these frames.
 unfoldable pub startedWith : Instance → ℕ → Part → Part
-startedWith x p (up b) = up (startBytes p (x .processes) (x .resilience) (proposalOf x p) b)
-startedWith x p (crashedIn round b) = crashedIn round b
+startedWith x p = withBytes (startBytes p (x .processes) (x .resilience) (proposalOf x p))
+
+unfoldable pub framesYielded : Part → List ℕ
+framesYielded part = speakYields (bytesKept part) outputRoom
 
 unfoldable pub closedWith : List ℕ → Part → Part
-closedWith frames (up b) = up (closeState b frames)
-closedWith frames (crashedIn round b) = crashedIn round b
+closedWith frames = withBytes (λ b. closeState b frames)
 
 -- A part when round r is over: one that is open and has its process's failure line in this round has crashed, with the bytes that it has (document 01: it has
 -- gone dark).
@@ -63,7 +71,7 @@ changedAt p change parts = mapFrom (λ q part. cond (eqb q p) (change part) part
 unfoldable pub step : Instance → Step → Hosted → Hosted
 step x (start p) h = record { round = h .round; parts = changedAt p (startedWith x p) (h .parts); spoken = h .spoken }
 step x (speak p) h =
-    record { round = h .round; parts = h .parts; spoken = h .spoken ++ (record { sender = p; frames = yielded (partOf (h .parts) p) } ∷ []) }
+    record { round = h .round; parts = h .parts; spoken = h .spoken ++ (record { sender = p; frames = framesYielded (partOf (h .parts) p) } ∷ []) }
 step x (close p) h =
     record { round = h .round; parts = changedAt p (closedWith (heardOf x (h .round) p (h .spoken))) (h .parts); spoken = h .spoken }
 step x roundOver h =

@@ -1,17 +1,22 @@
--- What becomes of desks whose host does not keep to Paper 14's order (document 02): each condition on a schedule is needed. Steps that are none of a schedule in
--- order, and the parts or the answers with which they end.
+-- What becomes of desks whose host does not keep to Paper 14's order (document 02): for each condition on a schedule, steps that are in order but for it, and the parts
+-- with which they end or what is answered.
 use mathlib.Core.List.{List, [], _∷_, _++_, map}
 use mathlib.Core.Path.{_≡_}
-use Rattle.consensus.specs.Instance.{Instance, beforeSending}
-use Rattle.consensus.specs.FourProcesses.{firstCrashes, afterOneCommit}
+use Prim.Native.Nat.{ℕ}
+use Rattle.consensus.specs.Instance.{Instance}
+use Rattle.consensus.specs.FourProcesses.{afterOneCommit}
 use Rattle.part_format.specs.Case.{bytesIn}
 use Rattle.part_host.specs.Part.{Part, up, crashedIn}
-use Rattle.part_schedules.specs.Steps.{Step, start, speak, close, roundOver, lent, play}
+use Rattle.part_schedules.specs.Steps.{Step, start, speak, close, roundOver, unstarted, play}
 use Rattle.part_schedules.specs.Answers.{allAnswers}
+use Rattle.part_schedules.specs.Example.{silentFirst}
 
--- All four are started, then these steps.
+-- All four are started, then these steps: the parts, and all that is answered.
 unfoldable pub partsAfterSteps : Instance → List Step → List Part
-partsAfterSteps x steps = play x (map start (1 ∷ 2 ∷ 3 ∷ 4 ∷ []) ++ steps) (lent x) .parts
+partsAfterSteps x steps = play x (map start (1 ∷ 2 ∷ 3 ∷ 4 ∷ []) ++ steps) (unstarted x) .parts
+
+unfoldable pub answersToSteps : Instance → List Step → List ℕ
+answersToSteps x steps = allAnswers x (unstarted x) (map start (1 ∷ 2 ∷ 3 ∷ 4 ∷ []) ++ steps)
 
 -- Case 1: process 2 closes round 1 before the coordinator has spoken. It keeps its own 20, coordinates round 2 with it, and two values are decided.
 unfoldable pub closedEarly : List Step
@@ -58,11 +63,24 @@ NotHeard =
     ∷ up (bytesIn "04 04 02 01 01 0000000A")
     ∷ []
 
--- Case 1 but that process 1 crashes before it sends: process 3 closes round 1 twice and is a round ahead, in its own. So it speaks with process 2, the coordinator of
--- round 2, and neither it nor process 4 takes what it hears: refusal 12.
-unfoldable pub silentFirst : Instance
-silentFirst = firstCrashes beforeSending
+-- The same instance but that process 1 crashes before it sends (`silentFirst`): it comes back in round 2 and closes on nothing, in its own round 1. It has decided 10, and
+-- the others decide 20.
+unfoldable pub crashedComesBack : List Step
+crashedComesBack =
+    speak 1 ∷ speak 2 ∷ speak 3 ∷ speak 4 ∷ close 2 ∷ close 3 ∷ close 4 ∷ roundOver
+    ∷ speak 2 ∷ speak 3 ∷ speak 4 ∷ close 1 ∷ close 2 ∷ close 3 ∷ close 4 ∷ roundOver ∷ []
 
+unfoldable pub CameBack : Type 0
+CameBack =
+    partsAfterSteps silentFirst crashedComesBack
+    ≡ crashedIn 1 (bytesIn "01 04 02 01 01 0000000A")
+    ∷ up (bytesIn "02 04 02 02 01 00000014")
+    ∷ up (bytesIn "03 04 02 02 01 00000014")
+    ∷ up (bytesIn "04 04 02 02 01 00000014")
+    ∷ []
+
+-- The same: process 3 closes round 1 twice and is a round ahead, in its own. In round 2 it yields frames beside those of process 2, and neither it nor process 4 takes
+-- what it hears: refusal 12.
 unfoldable pub closedTwice : List Step
 closedTwice =
     speak 1 ∷ speak 2 ∷ speak 3 ∷ speak 4 ∷ close 3 ∷ close 2 ∷ close 3 ∷ close 4 ∷ roundOver
@@ -76,11 +94,53 @@ RoundAhead =
     ∷ up (bytesIn "03 04 02 03 00 0000001E")
     ∷ up (bytesIn "04 04 02 02 00 00000028")
     ∷ [])
-    × (allAnswers silentFirst (lent silentFirst) (map start (1 ∷ 2 ∷ 3 ∷ 4 ∷ []) ++ closedTwice)
+    × (answersToSteps silentFirst closedTwice
     ≡ (0 ∷ 0 ∷ 0 ∷ 0 ∷ []) ++ (8 ∷ 0 ∷ 0 ∷ 0 ∷ []) ++ (0 ∷ 0 ∷ 0 ∷ 0 ∷ []) ++ (8 ∷ 8 ∷ 0 ∷ []) ++ (0 ∷ 12 ∷ 12 ∷ []))
+
+-- Case 1: process 3 is left out when round 1 is closed, and in round 2 refuses what it hears with 12.
+unfoldable pub leftOpen : List Step
+leftOpen =
+    speak 1 ∷ speak 2 ∷ speak 3 ∷ speak 4 ∷ close 2 ∷ close 4 ∷ roundOver
+    ∷ speak 2 ∷ speak 3 ∷ close 2 ∷ close 3 ∷ roundOver ∷ []
+
+unfoldable pub RoundBehind : Type 0
+RoundBehind =
+    answersToSteps afterOneCommit leftOpen ≡ (0 ∷ 0 ∷ 0 ∷ 0 ∷ []) ++ (8 ∷ 0 ∷ 0 ∷ 0 ∷ []) ++ (0 ∷ 0 ∷ []) ++ (8 ∷ 0 ∷ []) ++ (0 ∷ 12 ∷ [])
+
+-- Case 1: process 1 is called to speak twice in round 1, and the others refuse what they hear with 12.
+unfoldable pub spokenTwice : List Step
+spokenTwice = speak 1 ∷ speak 2 ∷ speak 3 ∷ speak 4 ∷ speak 1 ∷ close 2 ∷ close 3 ∷ close 4 ∷ roundOver ∷ []
+
+unfoldable pub HeardTwice : Type 0
+HeardTwice =
+    answersToSteps afterOneCommit spokenTwice ≡ (0 ∷ 0 ∷ 0 ∷ 0 ∷ []) ++ (8 ∷ 0 ∷ 0 ∷ 0 ∷ 8 ∷ []) ++ (12 ∷ 12 ∷ 12 ∷ [])
+
+-- Case 1: process 4, which has decided in round 1, is started again, and has lost its decision.
+unfoldable pub startedAgain : List Step
+startedAgain = speak 1 ∷ speak 2 ∷ speak 3 ∷ speak 4 ∷ close 2 ∷ close 3 ∷ close 4 ∷ roundOver ∷ start 4 ∷ []
+
+unfoldable pub DecisionLost : Type 0
+DecisionLost =
+    partsAfterSteps afterOneCommit startedAgain
+    ≡ crashedIn 1 (bytesIn "01 04 02 01 00 0000000A")
+    ∷ up (bytesIn "02 04 02 02 00 0000000A")
+    ∷ up (bytesIn "03 04 02 02 00 0000000A")
+    ∷ up (bytesIn "04 04 02 01 00 00000028")
+    ∷ []
+
+-- Process 3 is not started: its calls are refused with 10. So is the start of process 5, of four.
+unfoldable pub NotStarted : Type 0
+NotStarted =
+    allAnswers afterOneCommit (unstarted afterOneCommit) (start 1 ∷ start 2 ∷ start 4 ∷ start 5 ∷ speak 1 ∷ speak 3 ∷ close 3 ∷ [])
+    ≡ 0 ∷ 0 ∷ 0 ∷ 10 ∷ 8 ∷ 10 ∷ 10 ∷ []
 
 pub record WrongOrders : Type 0 where
   pub closedBeforeAllSpoke : TwoValues
   pub closedThoughCrashing : CrashedDecides
   pub closedUnspoken : NotHeard
+  pub closedThoughCrashed : CameBack
   pub closedAgain : RoundAhead
+  pub notClosed : RoundBehind
+  pub spokeAgain : HeardTwice
+  pub startedTwice : DecisionLost
+  pub notStarted : NotStarted

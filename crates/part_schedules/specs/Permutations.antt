@@ -8,9 +8,10 @@ use Rattle.consensus.specs.Instance.{Instance}
 use Rattle.consensus.specs.Consensus.{IsProcess}
 use Rattle.coordinator.specs.Run.{runOf}
 use Rattle.part_host.specs.Part.{partOf}
-use Rattle.part_schedules.specs.Steps.{Hosted, start, lent, play}
+use Rattle.part_schedules.specs.Steps.{Hosted, start, unstarted, play}
 use Rattle.part_schedules.specs.Schedule.{RoundOrder, Schedule, roundSteps, played, maySpeak, mayClose, EachOnce, InOrder}
 use Rattle.part_schedules.specs.ByRun.{partByRun}
+use Rattle.part_schedules.specs.AnyOrder.{EnoughRounds}
 
 -- Those of an order that may be called.
 unfoldable pub among : (ℕ → Bool) → List ℕ → List ℕ
@@ -28,19 +29,19 @@ passingRounds x h (order ∷ orders) =
     one ∷ passingRounds x (play x (roundSteps one) h) orders
 
 unfoldable pub passingSchedule : Instance → Schedule → Schedule
-passingSchedule x s = record { starting = s .starting; rounds = passingRounds x (play x (map start (s .starting)) (lent x)) (s .rounds) }
+passingSchedule x s = record { starting = s .starting; rounds = passingRounds x (play x (map start (s .starting)) (unstarted x)) (s .rounds) }
 
 -- In each round all processes are named, each once, to speak and to close.
-unfoldable pub AllNamed : Instance → List RoundOrder → Type 0
-AllNamed x [] = Unit
-AllNamed x (order ∷ orders) = EachOnce x (order .speaking) × EachOnce x (order .closing) × AllNamed x orders
+unfoldable pub AllPermuted : Instance → List RoundOrder → Type 0
+AllPermuted x [] = Unit
+AllPermuted x (order ∷ orders) = EachOnce x (order .speaking) × EachOnce x (order .closing) × AllPermuted x orders
 
-pub record Named (x : Instance) (s : Schedule) : Type 0 where
+pub record Permuted (x : Instance) (s : Schedule) : Type 0 where
   pub starts : EachOnce x (s .starting)
-  pub rounds : AllNamed x (s .rounds)
+  pub rounds : AllPermuted x (s .rounds)
 
 -- The claim: whatever these orders are, what is called is in order; and where there is one for each round of the run, the parts end as the run says.
-pub record EveryOrder (x : Instance) : Type 0 where
-  pub inOrder : (s : Schedule) → Named x s → InOrder x (passingSchedule x s)
-  pub byRun : (s : Schedule) → Named x s → runOf x .rounds ≤ length (s .rounds) → (p : ℕ) → IsProcess x p
+pub record Permutations (x : Instance) : Type 0 where
+  pub inOrder : (s : Schedule) → Permuted x s → InOrder x (passingSchedule x s)
+  pub byRun : (s : Schedule) → Permuted x s → EnoughRounds x s → (p : ℕ) → IsProcess x p
       → partOf (played x (passingSchedule x s) .parts) p ≡ partByRun x p
