@@ -1,7 +1,7 @@
 /* A libFuzzer harness for the nine functions of libagreement.a.
  *
- * The first byte of the input picks the function, the rest is what it is
- * called with (seed-corpus writes inputs of this form). Checked is first what
+ * The first byte of the input picks the function, or a run by parts, the rest is
+ * what it is called with (seed-corpus writes inputs of this form). Checked is first what
  * needs no second implementation: answers in the documented ranges, equal
  * answers to equal calls, refused calls that change nothing, bytes behind
  * those written left alone, of every result that the processes agree (document
@@ -13,7 +13,9 @@
  * those of the value that the result has, by the ticket and by the state of each
  * that decides (Paper 9), and that a ticket in other letters is answered alike
  * and leaves the same bytes (Paper 1); and then that the second implementation
- * answers alike and leaves the same bytes.
+ * answers alike and leaves the same bytes; and that the parts of a ticket's run,
+ * called in an order that the input chooses and mixed with those of another run,
+ * answer and end as the second implementation's runs say (Paper 14).
  *
  * libagreement.a is not instrumented: the fuzzer is led by the coverage of the
  * second implementation, which runs the same input, and of this file. */
@@ -51,6 +53,7 @@ uint64_t second_start(uint64_t process, uint64_t n, uint64_t t, uint32_t value, 
                       size_t state_len);
 uint64_t second_speak(const uint8_t *state, size_t state_len, uint8_t *output, size_t output_len);
 uint64_t second_close(uint8_t *state, size_t state_len, const uint8_t *heard, size_t heard_len);
+uint64_t second_play(const uint8_t *ticket, size_t ticket_len, uint64_t seed);
 
 enum {
     LONGEST_TICKET = 4096,
@@ -661,10 +664,18 @@ static void fuzz_close(Input input) {
     take_back(second_state);
 }
 
+/* The parts of a ticket's run in an order that the first bytes choose. */
+static void fuzz_orders(Input input) {
+    uint64_t seed = take_number(&input, 8);
+    Lent text = lend(input.bytes, input.length);
+    CHECK(second_play(text.bytes, text.length, seed) == 0);
+    take_back(text);
+}
+
 int LLVMFuzzerTestOneInput(const uint8_t *bytes, size_t length) {
     if (length == 0) return 0;
     Input input = {bytes + 1, length - 1};
-    switch (bytes[0] % 9) {
+    switch (bytes[0] % 10) {
     case 0: fuzz_run(input); break;
     case 1: fuzz_settle(input); break;
     case 2: fuzz_start(input); break;
@@ -674,6 +685,7 @@ int LLVMFuzzerTestOneInput(const uint8_t *bytes, size_t length) {
     case 6: fuzz_reasons(input); break;
     case 7: fuzz_quote(input); break;
     case 8: fuzz_price(input); break;
+    case 9: fuzz_orders(input); break;
     }
     return 0;
 }

@@ -42,9 +42,7 @@ fn failures(rng: &mut Rng, n: u8, t: u8) -> Vec<Failure> {
     let count = if rng.one_in(2) { t } else { rng.between(0, t) };
     let mut processes: Vec<u8> = (1..=n).collect();
     if rng.one_in(2) {
-        for place in (1..processes.len()).rev() {
-            processes.swap(place, rng.below(place + 1));
-        }
+        rng.shuffle(&mut processes);
     }
     processes.truncate(usize::from(count));
     processes.sort_unstable();

@@ -44,6 +44,32 @@ pub trait Agreement {
     fn close(&mut self, state: &mut [u8], heard: &[u8]) -> u64;
 }
 
+/// The three operations of a local part, which are all that a host calls in a run.
+pub trait Part {
+    /// As [`Agreement::start`].
+    fn start(&mut self, process: u64, n: u64, t: u64, value: u32, state: &mut [u8]) -> u64;
+
+    /// As [`Agreement::speak`].
+    fn speak(&mut self, state: &[u8], output: &mut [u8]) -> u64;
+
+    /// As [`Agreement::close`].
+    fn close(&mut self, state: &mut [u8], heard: &[u8]) -> u64;
+}
+
+impl<M: Agreement> Part for M {
+    fn start(&mut self, process: u64, n: u64, t: u64, value: u32, state: &mut [u8]) -> u64 {
+        Agreement::start(self, process, n, t, value, state)
+    }
+
+    fn speak(&mut self, state: &[u8], output: &mut [u8]) -> u64 {
+        Agreement::speak(self, state, output)
+    }
+
+    fn close(&mut self, state: &mut [u8], heard: &[u8]) -> u64 {
+        Agreement::close(self, state, heard)
+    }
+}
+
 /// The answer about a refused ticket.
 pub fn refused(refusal: Refusal) -> u64 {
     REFUSED * u64::from(refusal.reason.number()) + u64::from(refusal.line)

@@ -1,5 +1,5 @@
 //! A second implementation of document 01's base version and of document 02's
-//! Papers 1 to 4, 6, 7 and 9, written from the papers alone and in a shape of its own: a run
+//! Papers 1 to 4, 6, 7, 9 and 14, written from the papers alone and in a shape of its own: a run
 //! is simulated message by message, with a mailbox for each process and a switch
 //! in between.
 //!
@@ -13,6 +13,7 @@
 //! | 02, Paper 6: the first settling round | [`Simulator::settling_round`] |
 //! | 02, Paper 7: the reason of each process in each round | [`round_reason`], [`process::Course`] |
 //! | 02, Paper 9: pricing from what is decided | [`pricing`] |
+//! | 02, Paper 14: parts called in any order | [`orders`], [`host`], [`run_states`] |
 //! | "A round" | [`process`], [`switch`], [`simulation`] |
 //! | "The result", refusal 9, settling | [`Simulator`], [`report`] |
 //! | "The desk part", refusals 9 to 12 | [`local`] |
@@ -32,9 +33,11 @@
 
 pub mod corpus;
 pub mod generate;
+pub mod host;
 pub mod interface;
 pub mod lines;
 pub mod local;
+pub mod orders;
 pub mod patterns;
 pub mod pricing;
 pub mod process;
@@ -43,6 +46,7 @@ pub mod refusal;
 pub mod report;
 pub mod rng;
 pub mod round_reason;
+pub mod run_states;
 pub mod separate;
 pub mod simulation;
 pub mod switch;

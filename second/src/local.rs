@@ -11,6 +11,9 @@ pub const STATE_LENGTH: usize = 9;
 /// How many bytes a coordinator yields: data, then commit.
 pub const SPEECH_LENGTH: usize = 8;
 
+/// How many of these are data; the rest is the commit.
+pub const DATA_LENGTH: usize = 6;
+
 const DATA: u8 = 0x21;
 const COMMIT: u8 = 0x22;
 

@@ -167,6 +167,7 @@ impl Process {
 
     /// The end of `round`: the process crashes, decides as its coordinator, or
     /// goes through its mailbox. The answer is how the round went for it.
+    #[inline]
     pub fn end_round(&mut self, round: u8) -> Course {
         match self.status {
             Status::Crashed(_) => Course::CrashedBefore,

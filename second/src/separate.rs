@@ -3,14 +3,10 @@
 //! that drops what goes to a process that has crashed or decided (02, Paper 4).
 
 use crate::interface::Agreement;
-use crate::local::{SPEECH_LENGTH, STATE_LENGTH};
+use crate::local::{DATA_LENGTH, SPEECH_LENGTH, STATE_LENGTH};
 use crate::process::{Message, MessageCounts, Status};
 use crate::switch::{Fate, Uplink};
 use crate::ticket::{Failure, Ticket};
-
-/// How many of the bytes that a coordinator yields are data; the rest is the
-/// commit.
-const DATA_LENGTH: usize = 6;
 
 /// How a process ends, and what of its own was carried.
 #[derive(Clone, Copy, Debug, PartialEq, Eq)]

@@ -1,6 +1,6 @@
 //! A whole run, round by round (01, "A round").
 
-use crate::process::{Course, Process};
+use crate::process::{Course, Process, Status};
 use crate::round_reason::RoundReason;
 use crate::switch::{Fate, Switch, Uplink};
 use crate::ticket::Ticket;
@@ -18,6 +18,20 @@ pub struct Totals {
     pub data: u16,
     /// Commits carried.
     pub commits: u16,
+}
+
+/// What has become of each process, and the value that it holds, or held when it crashed.
+pub type Standing = Vec<(Status, u32)>;
+
+/// The standing before round 1 and after each round of a ticket's run.
+pub fn history(ticket: &Ticket) -> Vec<Standing> {
+    let standing = |processes: &[Process]| {
+        processes.iter().map(|process| (process.status(), process.estimate())).collect()
+    };
+    let mut simulation = Simulation::new(ticket);
+    let mut history = vec![standing(simulation.processes())];
+    simulation.run(|_, processes| history.push(standing(processes)));
+    history
 }
 
 /// The processes of a run and the switch between them.

@@ -1,5 +1,6 @@
 //! What demands 2 and 3, the paper's bound and Papers 1, 2, 4, 6 and 7 of document 02
-//! claim of every run, tried on random tickets. (Those of Paper 9 are in pricing.rs.)
+//! claim of every run, tried on random tickets. (Those of Paper 9 are in pricing.rs, those
+//! of Paper 14 in orders.rs.)
 
 mod tickets;
 

@@ -7,18 +7,23 @@
 //! by themselves, with what is carried and what is dropped. Of the rounds that
 //! base.jsonl says qualify for settling, the first is the settling round; paper-06.jsonl
 //! says it by itself. paper-07.jsonl has the reasons of whole runs and single ones,
-//! paper-09.jsonl quotes.
+//! paper-09.jsonl quotes, paper-14.jsonl the states in which parts end that are called in
+//! the orders it gives.
 
 mod json;
 
 use std::fs;
 use std::path::Path;
 
-use json::Object;
+use json::{Object, Value};
+use second::generate::decode_line;
+use second::host::{play, Host};
 use second::interface::{Agreement, REFUSED};
 use second::lines::Lines;
+use second::orders::{calls_of, in_given_order, Act, Call};
 use second::process::{Process, Status};
 use second::recount::{counted, crashed_before, decided_before};
+use second::run_states::{RunStates, StateBytes};
 use second::simulation::Simulation;
 use second::{Simulator, Ticket};
 
@@ -180,7 +185,7 @@ fn reasons_of_paper_7() {
         let text = vector.written("ticket").expect(&about);
         if vector.has("reasons_by_round_then_station") {
             let rounds = vector.lists("reasons_by_round_then_station");
-            reasons_of_a_run(&mut simulator, &text, rounds, &about);
+            reasons_of_a_run(&mut simulator, &text, &rounds, &about);
             rounds.iter().flatten().for_each(|&reason| shown[reason as usize] += 1);
             runs += 1;
             continue;
@@ -214,7 +219,7 @@ fn quotes_of_paper_9() {
             (0, vector.number("quote"))
         };
         let mut quote = before;
-        let answer = Agreement::quote(&mut simulator, &text, costs, process, &mut quote);
+        let answer = Agreement::quote(&mut simulator, &text, &costs, process, &mut quote);
         assert_eq!((answer, quote), right, "{about}");
         quoted += usize::from(answer == 0);
         shown[(answer / REFUSED) as usize] += 1;
@@ -223,6 +228,82 @@ fn quotes_of_paper_9() {
     assert!(vectors.len() >= 270 && quoted >= 190, "{figures:?}");
     let numbers = (1..=8).chain(14..=16);
     assert!(numbers.into_iter().all(|number| shown[number] > 0), "{shown:?}");
+}
+
+fn processes_in(list: &Value) -> Vec<u8> {
+    list.numbers().into_iter().map(|process| process as u8).collect()
+}
+
+/// The calls of one run in the orders that a vector gives for each round.
+fn calls_by_round(vector: &Object, run: &RunStates) -> Vec<Call> {
+    let [speaking, closing] =
+        ["speaking_order_by_round", "closing_order_by_round"].map(|name| vector.values(name));
+    assert_eq!([speaking.len(), closing.len()], [usize::from(run.rounds()); 2]);
+    in_given_order(run, 0, run.rounds(), |round, act| {
+        let orders = if act == Act::Speak { speaking } else { closing };
+        processes_in(&orders[usize::from(round) - 1])
+    })
+}
+
+/// The calls of two runs whose rounds come in the order of a vector's steps.
+fn calls_by_steps(vector: &Object, runs: &[RunStates]) -> Vec<Call> {
+    let mut rounds = vec![0; runs.len()];
+    let mut calls = Vec::new();
+    for step in vector.values("steps").iter().map(Value::object) {
+        let instance = step.number("tender") as usize - 1;
+        rounds[instance] += 1;
+        for (act, order) in [(Act::Speak, "speaking_order"), (Act::Close, "closing_order")] {
+            let order = processes_in(step.value(order));
+            calls.extend(calls_of(&runs[instance], instance, rounds[instance], act, &order));
+        }
+    }
+    assert!(runs.iter().zip(rounds).all(|(run, rounds)| run.rounds() == rounds));
+    calls
+}
+
+/// The tickets of a vector, and the states in which the parts of each end.
+fn tickets_and_ends(vector: &Object) -> (Vec<Ticket>, Vec<Vec<StateBytes>>) {
+    let ticket = |text: &str| Ticket::parse(text.as_bytes()).expect("an accepted ticket");
+    let state = |digits: &Value| decode_line(digits.text()).try_into().expect("nine bytes");
+    let ends = |states: &[Value]| states.iter().map(state).collect();
+    if vector.has("ticket") {
+        return (
+            vec![ticket(vector.text("ticket"))],
+            vec![ends(vector.values("states_at_the_end"))],
+        );
+    }
+    let by_instance = vector.values("states_at_the_end_by_tender").iter();
+    (
+        vector.values("tickets").iter().map(|text| ticket(text.text())).collect(),
+        by_instance.map(|states| ends(states.values())).collect(),
+    )
+}
+
+#[test]
+fn orders_of_paper_14() {
+    let vectors = vectors("paper-14.jsonl");
+    let (mut instances, mut of_decided, mut crashes) = ([0; 3], 0, 0);
+    for (line, vector) in (1..).zip(&vectors) {
+        let about = format!("line {line}: {}", vector.text("about"));
+        let (tickets, ends) = tickets_and_ends(vector);
+        let runs: Vec<RunStates> = tickets.iter().map(RunStates::of).collect();
+        let calls = match &runs[..] {
+            [run] => calls_by_round(vector, run),
+            runs => calls_by_steps(vector, runs),
+        };
+        for (run, ends) in runs.iter().zip(&ends) {
+            assert_eq!(run.ends(), ends, "{about}");
+        }
+        let borrowed: Vec<&RunStates> = runs.iter().collect();
+        let played = play(&mut Simulator::new(), &borrowed, &calls, Host::make);
+        assert_eq!(played, Ok(()), "{about}");
+        instances[runs.len()] += 1;
+        let has_decided = |call: &&Call| runs[call.instance].has_decided(call.process, call.round);
+        of_decided += calls.iter().filter(has_decided).count();
+        crashes += ends.iter().flatten().filter(|state| state[4] == 0).count();
+    }
+    assert_eq!(instances, [0, 180, 50]);
+    assert!(of_decided > 100 && crashes > 100, "{of_decided} {crashes}");
 }
 
 fn sum_of(a: [u16; 2], b: [u16; 2]) -> [u16; 2] {

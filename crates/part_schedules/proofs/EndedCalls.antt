@@ -2,17 +2,14 @@
 use mathlib.Core.List.{List, [], _∷_, _++_}
 use mathlib.Core.Path.{_≡_, refl, sym, ap, _∙_}
 use mathlib.Core.Bool.{Bool, true, false, cond, _||_}
-use Prim.Native.Nat.{ℕ, _≤_}
-use native.Mathlib.Omega.{arith}
+use Prim.Native.Nat.{ℕ}
 use lib.Dec.{eqb}
-use lib.ListN.{length}
 use borrow.Author.Tests.{eqb-false, eq-eqb, ne-eqb}
 use Rattle.general.proofs.Indexed.{length-mapFrom, mapFrom-at}
 use Rattle.general.proofs.Tests.{by-equal}
 use Rattle.consensus.specs.Instance.{Instance, faultOf}
-use Rattle.part_format.specs.PartState.{ValidBytes}
-use Rattle.part_host.specs.Part.{Part, up, crashedIn, partOf, isOpen}
-use Rattle.part_schedules.specs.Steps.{Spoken, Hosted, Step, start, speak, close, roundOver, heardOf, withBytes, startedWith, framesYielded, closedWith, leftAfter, changedAt, step, play}
+use Rattle.part_host.specs.Part.{Part, up, crashedIn, partOf}
+use Rattle.part_schedules.specs.Steps.{Hosted, Step, start, speak, close, roundOver, heardOf, withBytes, startedWith, framesYielded, closedWith, leftAfter, changedAt, step, play}
 use Rattle.part_schedules.specs.Schedule.{isUp, upAndOpen}
 use Rattle.part_schedules.specs.Answers.{answers, allAnswers}
 use Rattle.part_schedules.specs.EndedCalls.{Ended, CallOf, toSpeak, toClose, starts, EndedCalls}

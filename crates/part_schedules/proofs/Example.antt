@@ -1,6 +1,6 @@
 -- Marked cases of document 01 in other orders, and case 1 beside case 5 with the calls of both mixed: the definitions compute (`ends-alike`, `calls-answered`), and the premises
 -- of the claims on schedules are met (`premises-met`). Assumes nothing.
-use mathlib.Core.List.{List, [], _∷_, map}
+use mathlib.Core.List.{List, [], _∷_}
 use mathlib.Core.Path.{_≡_, refl, sym, subst}
 use mathlib.Core.Bool.{Bool, true, false, not, _&&_, _||_}
 use Prim.Native.Nat.{ℕ, _-_, _≤_}
@@ -35,7 +35,7 @@ use Rattle.part_host.specs.Hearing.{bytesReaching, reachFrom, letThrough}
 use Rattle.part_host.specs.Host.{blank}
 use Rattle.part_host.specs.DecideAlike.{partState}
 use Rattle.part_schedules.specs.ByRun.{valueHeld, estimateIn, partByEnd, partByRun}
-use Rattle.part_schedules.specs.Steps.{start, unstarted, heardOf, withBytes, startedWith, framesYielded, closedWith, leftAfter, changedAt, step, play}
+use Rattle.part_schedules.specs.Steps.{unstarted, heardOf, withBytes, startedWith, framesYielded, closedWith, leftAfter, changedAt, step, play}
 use Rattle.part_schedules.specs.Schedule.{Schedule, roundSteps, stepsOfRounds, scheduleSteps, played, timesCalled, isUp, upAndOpen, crashesNow, crashesUnsent, mustSpeak, maySpeak, mustClose, mayClose, Calls, EachOnce, RoundInOrder, RoundsInOrder, InOrder}
 use Rattle.part_schedules.proofs.Turns.{times-other}
 use Rattle.part_schedules.specs.Answers.{answers, allAnswers}

@@ -10,9 +10,9 @@ use Rattle.general.proofs.Tests.{by-equal, both}
 use Rattle.consensus.specs.Instance.{Instance}
 use Rattle.consensus.specs.Consensus.{IsProcess}
 use Rattle.coordinator.specs.WellFormed.{WellFormed}
-use Rattle.part_host.specs.Part.{Part, up, crashedIn, partOf}
+use Rattle.part_host.specs.Part.{partOf}
 use Rattle.part_schedules.specs.Steps.{Hosted, start, unstarted, play}
-use Rattle.part_schedules.specs.Schedule.{RoundOrder, Schedule, timesCalled, isUp, upAndOpen, mustSpeak, maySpeak, mustClose, mayClose}
+use Rattle.part_schedules.specs.Schedule.{RoundOrder, Schedule, timesCalled, mustSpeak, maySpeak, mustClose, mayClose}
 use Rattle.part_schedules.specs.Schedule.{Calls, EachOnce, RoundsInOrder, InOrder}
 use Rattle.part_schedules.specs.Permutations.{among, passingOver, passingRounds, passingSchedule, AllPermuted, Permuted, Permutations}
 use Rattle.part_schedules.proofs.Turns.{times-first, times-other}

@@ -7,7 +7,7 @@ use Prim.Native.Nat.{ℕ, suc, _≤_}
 use native.Mathlib.Omega.{arith}
 use lib.Dec.{eqb}
 use lib.ListN.{length}
-use borrow.Author.Tests.{eq-eqb, ne-eqb}
+use borrow.Author.Tests.{ne-eqb}
 use Rattle.general.proofs.Tests.{by-equal, both}
 use Rattle.consensus.specs.Instance.{Instance}
 use Rattle.consensus.specs.Consensus.{IsProcess}
@@ -16,12 +16,12 @@ use Rattle.part_format.specs.PartState.{stateFrom, stateRefusal}
 use Rattle.part_format.specs.Speak.{speakRefusal, speakYields, speakAnswer}
 use Rattle.part_format.specs.Close.{closeRefusal}
 use Rattle.part_format.proofs.Operations.{spoken-length}
-use Rattle.part_host.specs.Part.{Part, up, crashedIn, partOf, bytesKept, isOpen, outputRoom, yielded}
+use Rattle.part_host.specs.Part.{Part, up, crashedIn, partOf, bytesKept, isOpen, outputRoom}
 use Rattle.part_host.specs.Host.{partsTo}
 use Rattle.part_host.specs.DecideAlike.{OpenAfter}
 use Rattle.part_host.proofs.DecideAlike.{none-refused}
 use Rattle.part_schedules.specs.Steps.{Spoken, Hosted, speak, close, roundOver, heardOf, framesYielded, withBytes, closedWith, changedAt, step}
-use Rattle.part_schedules.specs.Schedule.{RoundOrder, roundSteps, timesCalled, isUp, upAndOpen, crashesNow, mustSpeak, maySpeak, mustClose, mayClose, RoundInOrder}
+use Rattle.part_schedules.specs.Schedule.{RoundOrder, roundSteps, timesCalled, isUp, upAndOpen, crashesNow, maySpeak, mustClose, mayClose, RoundInOrder}
 use Rattle.part_schedules.specs.Answers.{answers, due, Answered, AllAnswered}
 use Rattle.part_schedules.proofs.Turns.{times-more, times-first, times-other, unchanged-at, length-changed, changed-at}
 use Rattle.part_schedules.proofs.Phases.{said, all-spoken}

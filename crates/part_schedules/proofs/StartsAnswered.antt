@@ -14,7 +14,6 @@ use Rattle.part_format.specs.PartState.{stateBytes}
 use Rattle.part_format.specs.Start.{startRefusal, startState, startBytes}
 use Rattle.part_format.proofs.Valid.{identity-holds}
 use Rattle.part_host.specs.Part.{Part, up, partOf, bytesKept}
-use Rattle.part_host.specs.Host.{blank}
 use Rattle.part_host.proofs.Alike.{identity}
 use Rattle.part_schedules.specs.Steps.{Spoken, Hosted, Step, start, roundOver, unstarted, withBytes, startedWith, changedAt, step, play}
 use Rattle.part_schedules.specs.Schedule.{timesCalled, EachOnce}

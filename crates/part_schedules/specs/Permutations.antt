@@ -1,12 +1,10 @@
 -- Orders of all processes, of which those are passed over that may not be called (document 02, Paper 14: "every order of desks").
 use mathlib.Core.List.{List, [], _∷_, map}
 use mathlib.Core.Path.{_≡_}
-use Prim.Native.Nat.{ℕ, _≤_}
+use Prim.Native.Nat.{ℕ}
 use mathlib.Core.Bool.{Bool, cond}
-use lib.ListN.{length}
 use Rattle.consensus.specs.Instance.{Instance}
 use Rattle.consensus.specs.Consensus.{IsProcess}
-use Rattle.coordinator.specs.Run.{runOf}
 use Rattle.part_host.specs.Part.{partOf}
 use Rattle.part_schedules.specs.Steps.{Hosted, start, unstarted, play}
 use Rattle.part_schedules.specs.Schedule.{RoundOrder, Schedule, roundSteps, played, maySpeak, mayClose, EachOnce, InOrder}

@@ -41,6 +41,10 @@ pub struct Counts {
     pub quoted_alike: u64,
     /// Runs by separate local parts.
     pub separate_runs: u64,
+    /// Runs by separate local parts that are called in any order.
+    pub in_any_order: u64,
+    /// Mixes of two such runs.
+    pub mixes: u64,
     /// Results of the module under test whose counts by process were added up.
     pub added_up: u64,
     /// Results of it whose counts were held to the bounds by speakers.
@@ -65,8 +69,8 @@ impl fmt::Display for Counts {
              {} settling rounds held to what separate parts hold, \
              {} single reasons, {} tables of reasons and {} held to what separate parts hear, \
              {} quotes by tickets, {} by states and {} runs held to one quote, \
-             {} runs by separate parts, {} results added up and {} held to the bounds on messages \
-             and on commits; \
+             {} runs by separate parts, {} by parts called in any order and {} mixes of two runs, \
+             {} results added up and {} held to the bounds on messages and on commits; \
              {} of these tickets with each of the 256 bytes in place of another; \
              {} of these tickets in other letters too; {} starts, {} speeches, {} closings",
             self.accepted + self.refused,
@@ -82,6 +86,8 @@ impl fmt::Display for Counts {
             self.prices,
             self.quoted_alike,
             self.separate_runs,
+            self.in_any_order,
+            self.mixes,
             self.added_up,
             self.within_bounds,
             self.with_each_byte,
@@ -101,6 +107,13 @@ pub enum Difference {
         /// The text.
         text: Vec<u8>,
         /// The call and both answers.
+        what: String,
+    },
+    /// On two tickets' texts, which can be shrunk too.
+    Pair {
+        /// The texts.
+        texts: [Vec<u8>; 2],
+        /// The call, what it answers and what it is to answer.
         what: String,
     },
     /// On a call of start, speak, close or price.
@@ -234,12 +247,14 @@ fn relettered(text: &[u8]) -> Option<Vec<u8>> {
     }
 }
 
-impl<M: Agreement> Comparison<M> {
+impl<M> Comparison<M> {
     /// A comparison of `module` that has compared nothing yet.
     pub fn new(module: M) -> Self {
         Comparison { module, second: Simulator::new(), counts: Counts::default(), fill: 0 }
     }
+}
 
+impl<M: Agreement> Comparison<M> {
     /// Another fill each time, so that no byte is right by chance for long.
     pub(crate) fn next_fill(&mut self) -> u8 {
         self.fill = self.fill.wrapping_add(101);
@@ -248,7 +263,8 @@ impl<M: Agreement> Comparison<M> {
 
     /// Everything about one ticket: runs with output buffers of the lengths
     /// `rooms`, settling, reasons, separate local parts, by which settling and reasons
-    /// are right too, quotes, and the sums of the counts and their bounds.
+    /// are right too, in any order as well, quotes, and the sums of the counts and their
+    /// bounds.
     pub fn ticket(&mut self, text: &[u8], rooms: &[usize]) -> Result<(), Difference> {
         let differs = |what| Difference::Ticket { text: text.to_vec(), what };
         for &room in rooms {
@@ -262,6 +278,7 @@ impl<M: Agreement> Comparison<M> {
                 let (_, output) = run_into(&mut self.module, text, LONGEST_RESULT, 0);
                 let result = &output[..result_length(ticket.n)];
                 let separate = self.separate_run(&ticket, result).map_err(differs)?;
+                self.in_any_order(text, &ticket).map_err(differs)?;
                 self.keep_settled(settled, result, &separate).map_err(differs)?;
                 self.keep_reasons(text, result, &separate).map_err(differs)?;
                 self.accepted_quotes(text, &separate).map_err(differs)?;
@@ -486,9 +503,9 @@ pub fn rooms_around(n: u8, by: usize) -> Vec<usize> {
 mod tests {
     use super::*;
     use crate::exhaustive;
-    use second::process::{MessageCounts, Process, Status};
+    use second::process::{MessageCounts, Status};
     use second::recount::{counted, crashed_before, crashes_in, decided_before, end_round};
-    use second::simulation::Simulation;
+    use second::simulation::{history, Simulation, Standing};
     use second::worked;
     use second::{Crash, Failure};
 
@@ -684,23 +701,8 @@ mod tests {
         skipping
     }
 
-    /// The status of each process and the value that it holds, or held when it
-    /// crashed.
-    type States = Vec<(Status, u32)>;
-
-    /// Those of a ticket's processes before round 1 and after each round of its run.
-    fn history(ticket: &Ticket) -> Vec<States> {
-        let states = |processes: &[Process]| {
-            processes.iter().map(|process| (process.status(), process.estimate())).collect()
-        };
-        let mut simulation = Simulation::new(ticket);
-        let mut history = vec![states(simulation.processes())];
-        simulation.run(|_, processes| history.push(states(processes)));
-        history
-    }
-
     /// Whether the processes of a status hold one value.
-    fn one_value(states: &States, is_compared: impl Fn(Status) -> bool) -> bool {
+    fn one_value(states: &Standing, is_compared: impl Fn(Status) -> bool) -> bool {
         let mut held = states.iter().filter(|(status, _)| is_compared(*status));
         let first = held.next();
         held.all(|(_, value)| first.is_some_and(|(_, other)| value == other))
@@ -722,7 +724,7 @@ mod tests {
             (from..last).find(|&round| is_settled(round)).unwrap_or(last)
         };
         let settled = |round: usize| one_value(&history[round], |status| !has_crashed(status));
-        let never_crash = |states: &States| {
+        let never_crash = |states: &Standing| {
             let ends = history[last].iter().zip(states);
             ends.filter(|((end, _), _)| !has_crashed(*end)).map(|(_, &state)| state).collect()
         };

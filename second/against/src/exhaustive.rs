@@ -8,6 +8,7 @@ use second::local::{SPEECH_LENGTH, STATE_LENGTH};
 use second::patterns::failure_patterns;
 use second::pricing::HIGHEST_COST;
 use second::report::result_length;
+use second::run_states::RunStates;
 use second::tenders::{self, RATE_SETS};
 use second::ticket::{processes_above, MOST_PROCESSES};
 use second::worked;
@@ -31,6 +32,34 @@ pub fn tickets<M: Agreement>(comparison: &mut Comparison<M>) -> Result<(), Diffe
                 }
             }
         }
+    }
+    Ok(())
+}
+
+/// Cases 1 to 8, of up to 4 processes, with their parts called in every order (02, Paper
+/// 14).
+pub fn orders<M: Agreement>(comparison: &mut Comparison<M>) -> Result<(), Difference> {
+    (1..=8).map(worked::case).try_for_each(|ticket| {
+        let differs = |what| Difference::Ticket { text: ticket.text(), what };
+        comparison.in_every_order(&RunStates::of(&ticket)).map_err(differs)
+    })
+}
+
+/// Every mix of the calls of any two runs of n ≤ 2 processes, each in some order (02, Paper
+/// 14). All proposals of the two are different.
+pub fn mixes<M: Agreement>(comparison: &mut Comparison<M>) -> Result<(), Difference> {
+    let of_two = |proposals: [u32; 2]| -> Vec<Vec<u8>> {
+        let sizes = [(1, 0), (2, 0), (2, 1)];
+        let tickets = sizes.into_iter().flat_map(|(n, t)| {
+            let proposals = proposals[..usize::from(n)].to_vec();
+            let patterns = failure_patterns(n, t).into_iter();
+            patterns.map(move |failures| Ticket { n, t, proposals: proposals.clone(), failures })
+        });
+        tickets.map(|ticket| ticket.text()).collect()
+    };
+    let seconds = of_two([3, 4]);
+    for first in of_two([1, 2]) {
+        seconds.iter().try_for_each(|second| comparison.mixed(&first, second))?;
     }
     Ok(())
 }

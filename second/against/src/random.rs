@@ -8,11 +8,11 @@ use second::rng::Rng;
 use second::tenders;
 use second::ticket::MOST_PROCESSES;
 
-use crate::comparison::{rooms_at_limits, Comparison, Difference};
+use crate::comparison::{rooms_at_limits, seed_of, Comparison, Difference};
 
 /// A ticket of up to 64 processes, half of them with rate sets as proposals, damaged every
-/// other time, in any letters and in others; and with it some calls of start, speak,
-/// close and price.
+/// other time, in any letters and in others; one that is accepted also mixed with another;
+/// and with it some calls of start, speak, close and price.
 pub fn ticket_and_calls<M: Agreement>(
     comparison: &mut Comparison<M>,
     rng: &mut Rng,
@@ -35,6 +35,8 @@ pub fn ticket_and_calls<M: Agreement>(
     let any = rng.below(2 * LONGEST_RESULT);
     comparison.ticket(&text, &[exact, around, any])?;
     comparison.in_other_letters(&text, rng.pick(&[exact, around]))?;
+    let other = generate::ticket(&mut Rng::new(seed_of(&text)), MOST_PROCESSES);
+    comparison.mixed(&text, &other.text())?;
     calls(comparison, rng)
 }
 

@@ -1,5 +1,7 @@
 //! The second implementation's operations as C functions, for `fuzz.c`.
 
+mod parts;
+
 use std::cell::RefCell;
 use std::slice;
 

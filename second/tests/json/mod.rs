@@ -1,19 +1,55 @@
-//! As much of JSON as the vectors use: objects of strings, whole numbers, lists of
-//! whole numbers, lists of such lists, null and such objects, one object to a line.
+//! As much of JSON as the vectors use: objects of strings, whole numbers, null, lists and
+//! such objects, one object to a line.
 
 use std::collections::BTreeMap;
 use std::iter::Peekable;
 use std::str::Chars;
+
+use second::generate::decode_line;
 
 /// A value of an object's member.
 #[derive(Clone, Debug, PartialEq)]
 pub enum Value {
     Text(String),
     Number(u64),
-    List(Vec<u64>),
-    Lists(Vec<Vec<u64>>),
+    List(Vec<Value>),
     Object(Object),
     Null,
+}
+
+impl Value {
+    pub fn text(&self) -> &str {
+        match self {
+            Value::Text(text) => text,
+            other => panic!("no string: {other:?}"),
+        }
+    }
+
+    pub fn number(&self) -> u64 {
+        match self {
+            Value::Number(number) => *number,
+            other => panic!("no number: {other:?}"),
+        }
+    }
+
+    pub fn values(&self) -> &[Value] {
+        match self {
+            Value::List(values) => values,
+            other => panic!("no list: {other:?}"),
+        }
+    }
+
+    pub fn object(&self) -> &Object {
+        match self {
+            Value::Object(object) => object,
+            other => panic!("no object: {other:?}"),
+        }
+    }
+
+    /// The numbers of a list.
+    pub fn numbers(&self) -> Vec<u64> {
+        self.values().iter().map(Value::number).collect()
+    }
 }
 
 /// An object by its members' names.
@@ -33,43 +69,39 @@ impl Object {
     }
 
     pub fn text(&self, name: &str) -> &str {
-        match &self.0[name] {
-            Value::Text(text) => text,
-            other => panic!("{name} is no string: {other:?}"),
-        }
+        self.value(name).text()
     }
 
     pub fn number(&self, name: &str) -> u64 {
-        match &self.0[name] {
-            Value::Number(number) => *number,
-            other => panic!("{name} is no number: {other:?}"),
-        }
+        self.value(name).number()
     }
 
     /// A number, or none where null stands.
     pub fn number_if_any(&self, name: &str) -> Option<u64> {
-        (self.0[name] != Value::Null).then(|| self.number(name))
+        (*self.value(name) != Value::Null).then(|| self.number(name))
     }
 
-    pub fn list(&self, name: &str) -> &[u64] {
-        match &self.0[name] {
-            Value::List(list) => list,
-            other => panic!("{name} is no list: {other:?}"),
-        }
+    pub fn value(&self, name: &str) -> &Value {
+        &self.0[name]
     }
 
-    pub fn lists(&self, name: &str) -> &[Vec<u64>] {
-        match &self.0[name] {
-            Value::Lists(lists) => lists,
-            other => panic!("{name} is no list of lists: {other:?}"),
-        }
+    /// What a list holds.
+    pub fn values(&self, name: &str) -> &[Value] {
+        self.value(name).values()
+    }
+
+    /// The numbers of a list.
+    pub fn list(&self, name: &str) -> Vec<u64> {
+        self.value(name).numbers()
+    }
+
+    /// The numbers of a list's lists.
+    pub fn lists(&self, name: &str) -> Vec<Vec<u64>> {
+        self.values(name).iter().map(Value::numbers).collect()
     }
 
     pub fn object(&self, name: &str) -> &Object {
-        match &self.0[name] {
-            Value::Object(object) => object,
-            other => panic!("{name} is no object: {other:?}"),
-        }
+        self.value(name).object()
     }
 
     /// The bytes of a text: a string, or NAME_hex in hexadecimal digits.
@@ -83,10 +115,7 @@ impl Object {
 
     /// The bytes of a string of hexadecimal digits.
     pub fn bytes(&self, name: &str) -> Vec<u8> {
-        let digits = self.text(name);
-        let pairs = (0..digits.len()).step_by(2).map(|at| &digits[at..at + 2]);
-        let bytes = pairs.map(|pair| u8::from_str_radix(pair, 16));
-        bytes.collect::<Result<_, _>>().expect("pairs of digits")
+        decode_line(self.text(name))
     }
 }
 
@@ -120,16 +149,7 @@ impl Reader<'_> {
             return Value::Object(self.members());
         }
         if self.accept('[') {
-            if !self.accept('[') {
-                return Value::List(self.numbers());
-            }
-            let mut lists = vec![self.numbers()];
-            while !self.accept(']') {
-                self.expect(',');
-                self.expect('[');
-                lists.push(self.numbers());
-            }
-            return Value::Lists(lists);
+            return Value::List(self.list());
         }
         match self.0.peek() {
             Some('"') => Value::Text(self.string()),
@@ -141,11 +161,11 @@ impl Reader<'_> {
         }
     }
 
-    /// The numbers of a list, behind its opening bracket.
-    fn numbers(&mut self) -> Vec<u64> {
+    /// What a list holds, behind its opening bracket.
+    fn list(&mut self) -> Vec<Value> {
         let mut list = Vec::new();
         while !self.accept(']') {
-            list.push(self.number());
+            list.push(self.value());
             self.accept(',');
         }
         list

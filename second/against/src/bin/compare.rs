@@ -2,9 +2,10 @@
 //!
 //! `compare [--short] [--seed NUMBER] [--count NUMBER]`: the stored tickets,
 //! everything small, every byte at every place of a ticket, every count of a process,
-//! every settling round, every reason and every quote of some runs, and then `count` random
-//! tickets with calls of start, speak, close and price. The last line says what was compared; a difference is shown by the
-//! smallest ticket that could be found, and the exit status is 1.
+//! every settling round, every reason and every quote of some runs, every order of the parts
+//! of some runs, every mix of two small runs, and then `count` random tickets, some mixed with another, with calls of start,
+//! speak, close and price. The last line says what was compared; a difference is shown by
+//! the smallest ticket, or the two smallest, that could be found, and the exit status is 1.
 
 use std::env;
 use std::process::ExitCode;
@@ -51,7 +52,7 @@ fn compare(
         let mut rng = Rng::new(seed);
         (0..count).try_for_each(|_| random::ticket_and_calls(comparison, &mut rng))
     };
-    let parts: [Part; 11] = [
+    let parts: [Part; 13] = [
         ("every stored ticket", &exhaustive::stored),
         ("every ticket of up to 4 processes", &exhaustive::tickets),
         ("every byte at every place of a ticket", &exhaustive::bytes),
@@ -60,6 +61,8 @@ fn compare(
         ("every settling round for each n", &exhaustive::settling_rounds),
         ("every reason of some runs for each n", &exhaustive::reasons),
         ("every quote of some runs for each n, and every percentage", &exhaustive::quotes),
+        ("every order of the parts of cases 1 to 8", &exhaustive::orders),
+        ("every mix of two runs of up to 2 processes", &exhaustive::mixes),
         ("every start near the limits", &exhaustive::starts),
         ("speak, close and price near the limits", &exhaustive::states),
         ("random tickets and calls", &random_part),
@@ -80,9 +83,19 @@ fn difference_on(text: &[u8]) -> Option<String> {
     let compared = comparison
         .ticket(text, &rooms)
         .and_then(|()| rooms.iter().try_for_each(|&room| comparison.in_other_letters(text, room)));
-    match compared {
-        Err(Difference::Ticket { what, .. } | Difference::Call { what }) => Some(what),
-        Ok(()) => None,
+    compared.err().map(in_words)
+}
+
+/// The difference on two texts that are mixed, if there is one.
+fn difference_on_mix(first: &[u8], second: &[u8]) -> Option<String> {
+    Comparison::new(Proved).mixed(first, second).err().map(in_words)
+}
+
+fn in_words(difference: Difference) -> String {
+    match difference {
+        Difference::Ticket { what, .. }
+        | Difference::Pair { what, .. }
+        | Difference::Call { what } => what,
     }
 }
 
@@ -111,6 +124,18 @@ fn report(difference: Difference) {
             let what = difference_on(&smallest).unwrap_or(what);
             println!("The smallest that shows one: {what}");
             println!("{}", shown(&smallest));
+        }
+        Difference::Pair { texts: [first, second], what } => {
+            println!(
+                "DIFFERENCE on two tickets of {} and {} bytes: {what}",
+                first.len(),
+                second.len()
+            );
+            let first = shrink(&first, |text| difference_on_mix(text, &second).is_some());
+            let second = shrink(&second, |text| difference_on_mix(&first, text).is_some());
+            let what = difference_on_mix(&first, &second).unwrap_or(what);
+            println!("The smallest that show one: {what}");
+            println!("{}and\n{}", shown(&first), shown(&second));
         }
     }
 }
