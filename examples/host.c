@@ -18,8 +18,8 @@
  * that begins, every call with its process and, if it is refused, its refusal, and every process that crashes.
  *
  * The exit status is 0 if the tenders were played; 1 if a ticket is refused, which is told on standard error with number
- * and line; 2 if the arguments are wrong, or something cannot be read or written; 3 if a call is not answered as
- * agreement.h says.
+ * and line; 2 if the arguments are wrong, or something cannot be read or written; 3 if a call of an open part is refused, or
+ * one of a decided part is not refused with 11.
  */
 #include <errno.h>
 #include <inttypes.h>
@@ -237,12 +237,15 @@ static unsigned draw(struct draws *draws, unsigned count)
     return (unsigned)((mixed ^ mixed >> 31) % count);
 }
 
-/* Goes on to a tender's next phase. All parts that are up and open are to be called in it, and some of the decided. */
+/* Goes on to a tender's next phase. All parts that are up and open are to be called in it, and some of the decided. Before they
+ * are started all count as open: their states are zeros. */
 static void begin_phase(struct tender *tender, struct draws *draws)
 {
     tender->phase = tender->phase == CLOSING ? SPEAKING : tender->phase + 1;
-    if (tender->phase == SPEAKING)
-        tell(tender, "round", ++tender->round, 0);
+    if (tender->phase == SPEAKING) {
+        tender->round++;
+        tell(tender, "round", tender->round, 0);
+    }
     for (unsigned p = 1; p <= tender->ticket.n; p++) {
         const struct part *part = &tender->part[p];
         if (takes_part(part) || (!part->crashed && draw(draws, 2)))

@@ -111,7 +111,8 @@
  * THE HOST'S OBLIGATIONS
  *   The proofs speak of processes whose hosts do what follows. The library cannot see whether they do; where one does
  *   not, two processes may decide differently and no call is refused. All hosts use the same n and t, each process is
- *   started once, and at most t processes crash. In each round r, from 1 to t + 1, for each process that is up and open:
+ *   started once, before any speaks, and at most t processes crash. In each round r, from 1 to t + 1, for each process that
+ *   is up and open:
  *
  *   1. Speak once. uc_speak yields two frames in the process's own round (round = process) and nothing in any other.
  *   2. Send all data before any commit: the data frame to every process above, r + 1 to n, whatever is known of it.
@@ -138,9 +139,11 @@
  *   up and open has spoken before any closes, and has closed or crashed before any speaks in the next round. What a process
  *   yields is taken once, when it speaks, and kept for each receiver until that one closes: the coordinator may have closed
  *   before, and would be refused. A process that crashes in a round is not closed in it, and keeps the bytes with which the
- *   round began. Whichever such order it is, each process ends in the same nine bytes, those that the rounds of the ticket's
- *   run give. The calls of several tenders may be mixed in any way that keeps this order in each, if their states and frames
- *   are kept apart. (The repository's examples/host.c draws such orders from a seed, for one tender or two.)
+ *   round began; one that crashes before it sends anything need not have been called to speak. Whichever such order it is,
+ *   each process ends in the same nine bytes, those that running the ticket with these proposals and crashes gives. A process
+ *   that has decided may be called at any moment. The calls of several tenders may be mixed in any way that keeps this order
+ *   in each, if their states and frames are kept apart. (The repository's examples/host.c draws such orders from a seed, for
+ *   one tender or two.)
  *
  *   One round of one process, in a host of its own (send, sent, heard_in, stop and decided are the
  *   host's):

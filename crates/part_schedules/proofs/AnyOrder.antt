@@ -1,7 +1,7 @@
 -- Paper 14 on one tender: every schedule in order leaves what the base's host has after as many rounds, by induction over the rounds; so it ends as the run says
 -- (`any-order`, `orders-no-later`). For well-formed instances. Assumes nothing else.
-use mathlib.Core.List.{List, [], _∷_, map}
-use mathlib.Core.Bool.{true}
+use mathlib.Core.List.{List, [], _∷_, _++_, map}
+use mathlib.Core.Bool.{true, false}
 use mathlib.Core.Path.{_≡_, refl, sym, ap, _∙_}
 use Prim.Native.Nat.{ℕ, suc, _+_}
 use native.Mathlib.Numerals.{unary-clauses}
@@ -22,11 +22,13 @@ use Rattle.part_host.specs.PartEnds.{endByPart, latestByParts}
 use Rattle.part_host.proofs.Alike.{Alike, bothOpen, bothOver, bothDecided, bothCrashed}
 use Rattle.part_host.proofs.DecideAlike.{parts-alike}
 use Rattle.part_host.proofs.PartsConsensus.{parts-consensus, parts-no-later}
-use Rattle.part_schedules.specs.Steps.{Hosted, start, unstarted, play}
+use Rattle.part_schedules.specs.Steps.{Hosted, Step, start, unstarted, play}
 use Rattle.part_schedules.specs.Schedule.{RoundOrder, Schedule, roundSteps, stepsOfRounds, scheduleSteps, played, upAndOpen, crashesNow, EachOnce, RoundInOrder, RoundsInOrder, InOrder}
 use Rattle.part_schedules.specs.Answers.{AllAnswered}
 use Rattle.part_schedules.specs.ByRun.{valueHeld, estimateIn, partByEnd, partByRun}
 use Rattle.part_schedules.specs.AnyOrder.{Whole, EnoughRounds, endsBy, latestBy, AnyOrder}
+use Rattle.part_schedules.specs.EndedCalls.{Ended, starts}
+use Rattle.part_schedules.proofs.EndedCalls.{ended-calls}
 use Rattle.part_schedules.proofs.Phases.{play-append}
 use Rattle.part_schedules.proofs.Waiting.{none-open, ended-parts}
 use Rattle.part_schedules.proofs.Round.{atRound, round-in-order}
@@ -116,6 +118,17 @@ module _ (x : Instance) (formed : WellFormed x) where
   unfolding partByRun partsOf endOf runOf
   end-by-run p process = by-end x p (parts-alike x formed (suc (x .resilience)) p (omega arith) process)
 
+  decided-early : (s : Schedule) → Whole x s → (before behind : List Step) → scheduleSteps s ≡ before ++ behind → (p : ℕ) → IsProcess x p → (b : List ℕ)
+      → Ended (play x before (unstarted x)) p b → starts p behind ≡ false → up b ≡ partByRun x p
+  unfolding played
+  decided-early s whole before behind split p process b ended other =
+      let played-on : played x s ≡ play x behind (play x before (unstarted x)) =
+      ap (λ (steps : List Step). play x steps (unstarted x)) split ∙ play-append x before behind (unstarted x)
+      in
+      sym (ended-calls .keeps x (play x before (unstarted x)) p b ended behind other)
+      ∙ sym (ap (λ (h : Hosted). partOf (h .parts) p) played-on)
+      ∙ ap (λ (parts : List Part). partOf parts p) (whole-parts s whole) ∙ end-by-run p process
+
   pub whole-ends : (s : Schedule) → Whole x s → endsBy (played x s .parts) ≡ endByPart x
   unfolding endsBy endByPart endPartOf
   whole-ends s whole = rw (whole-parts s whole) refl
@@ -133,6 +146,7 @@ module _ (x : Instance) (formed : WellFormed x) where
         crashKeeps = λ s order ordered. crash-keeps s ordered order;
         through = rounds-through;
         byRun = λ s whole p process. rw (whole-parts s whole) (end-by-run p process);
+        decidedEarly = decided-early;
         alike = λ s u whole whole′. whole-parts s whole ∙ sym (whole-parts u whole′);
         answered = schedule-answered;
         consensus = whole-consensus;

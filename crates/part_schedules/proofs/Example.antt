@@ -1,12 +1,12 @@
 -- Marked cases of document 01 in other orders, and case 1 beside case 5 with the calls of both mixed: the definitions compute (`ends-alike`, `calls-answered`), and the premises
 -- of the claims on schedules are met (`premises-met`). Assumes nothing.
-use mathlib.Core.List.{List, [], _∷_}
+use mathlib.Core.List.{List, [], _∷_, _++_}
 use mathlib.Core.Path.{_≡_, refl, sym, subst}
 use mathlib.Core.Bool.{Bool, true, false, not, _&&_, _||_}
 use Prim.Native.Nat.{ℕ, _-_, _≤_}
 use native.Mathlib.Omega.{arith}
 use lib.Dec.{eqb, leb}
-use lib.ListN.{getD-replicate}
+use lib.ListN.{take, drop, getD-replicate}
 use borrow.Author.Tests.{eqb-true, leb-true, not-true}
 use Rattle.general.specs.Bits.{member}
 use Rattle.general.specs.BigEndian.{number, numberFrom, bytesOf}
@@ -174,6 +174,12 @@ ended-fourth : Ended (played afterOneCommit ascending) 4 endedBytes
 unfolding ascending endedBytes digitsIn paired bytesIn four firstCrashes afterOneCommit number numberFrom bytesOf mapFrom withinLimits proposalOf faultOf sends receives amongFirst reachAt reachIn crashesIn stateBytes stateFrom identityValid roundValid fieldsValid stateValid stateRefusal isOwnRound dataFrame commitFrame framesOf isDataFrame isCommitFrame messagesFrom startRefusal startState startBytes spokenBy speakRefusal speakYields heardBy stateAfter closedOn closeOnHeard closeState partOf isOpen outputRoom bytesKept bytesReaching reachFrom letThrough blank unstarted heardOf withBytes startedWith framesYielded closedWith leftAfter changedAt step play roundSteps stepsOfRounds scheduleSteps played isUp upAndOpen crashesNow crashesUnsent mustSpeak maySpeak mustClose mayClose
 ended-fourth = record { first = omega arith; last = omega arith; kept = refl; notOpen = refl }
 
+early-fourth : Ended (play afterOneCommit (take 11 (scheduleSteps ascending)) (unstarted afterOneCommit)) 4 endedBytes
+    × (starts 4 (drop 11 (scheduleSteps ascending)) ≡ false)
+    × (scheduleSteps ascending ≡ take 11 (scheduleSteps ascending) ++ drop 11 (scheduleSteps ascending))
+unfolding starts ascending endedBytes digitsIn paired bytesIn four firstCrashes afterOneCommit number numberFrom bytesOf mapFrom withinLimits proposalOf faultOf sends receives amongFirst reachAt reachIn crashesIn stateBytes stateFrom identityValid roundValid fieldsValid stateValid stateRefusal isOwnRound dataFrame commitFrame framesOf isDataFrame isCommitFrame messagesFrom startRefusal startState startBytes spokenBy speakRefusal speakYields heardBy stateAfter closedOn closeOnHeard closeState partOf isOpen outputRoom bytesKept bytesReaching reachFrom letThrough blank unstarted heardOf withBytes startedWith framesYielded closedWith leftAfter changedAt step play roundSteps stepsOfRounds scheduleSteps played isUp upAndOpen crashesNow crashesUnsent mustSpeak maySpeak mustClose mayClose
+early-fourth = (record { first = omega arith; last = omega arith; kept = refl; notOpen = refl }, refl, refl)
+
 valid-fourth : ValidBytes endedBytes
 unfolding endedBytes digitsIn paired bytesIn withinLimits stateFrom identityValid roundValid fieldsValid stateValid number numberFrom
 valid-fourth =
@@ -223,6 +229,9 @@ premises-met =
       ended = ended-fourth;
       valid = valid-fourth;
       notStarted = refl;
+      early = early-fourth .0;
+      notStartedLater = early-fourth .1;
+      split = early-fourth .2;
       firstTender = mixed-ends .0;
       secondTender = mixed-ends .1;
       firstLeft = mixed-ends .2;

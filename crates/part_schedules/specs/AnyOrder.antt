@@ -1,6 +1,6 @@
 -- The claim of Paper 14 on one tender (document 02): "every order of desks ends in the same nine bytes for each desk, those that the rounds of the ticket's run
 -- give".
-use mathlib.Core.List.{List, [], map}
+use mathlib.Core.List.{List, [], _++_, map}
 use mathlib.Core.Path.{_≡_}
 use Prim.Native.Nat.{ℕ, suc, _≤_}
 use mathlib.Core.Bool.{true, false}
@@ -13,10 +13,11 @@ use Rattle.coordinator.specs.Run.{runOf}
 use Rattle.part_host.specs.Part.{Part, up, crashedIn, partOf, bytesKept}
 use Rattle.part_host.specs.Host.{partsTo}
 use Rattle.part_host.specs.PartEnds.{stateByPart}
-use Rattle.part_schedules.specs.Steps.{start, unstarted, play}
+use Rattle.part_schedules.specs.Steps.{Step, start, unstarted, play}
 use Rattle.part_schedules.specs.Schedule.{RoundOrder, Schedule, roundSteps, scheduleSteps, played, upAndOpen, crashesNow, EachOnce, RoundInOrder, InOrder}
 use Rattle.part_schedules.specs.Answers.{AllAnswered}
 use Rattle.part_schedules.specs.ByRun.{partByRun}
+use Rattle.part_schedules.specs.EndedCalls.{Ended, starts}
 
 -- A schedule in order, at whose end no part is open any more: the host may stop, or go on, in which case it calls decided parts alone.
 pub record Whole (x : Instance) (s : Schedule) : Type 0 where
@@ -53,6 +54,9 @@ pub record AnyOrder (x : Instance) : Type 0 where
   pub through : (s : Schedule) → InOrder x s → EnoughRounds x s → Whole x s
   -- each ends as the run says
   pub byRun : (s : Schedule) → Whole x s → (p : ℕ) → IsProcess x p → partOf (played x s .parts) p ≡ partByRun x p
+  -- one that has decided, also in the midst of a round, has the nine bytes already with which it ends
+  pub decidedEarly : (s : Schedule) → Whole x s → (before behind : List Step) → scheduleSteps s ≡ before ++ behind → (p : ℕ) → IsProcess x p → (b : List ℕ)
+      → Ended (play x before (unstarted x)) p b → starts p behind ≡ false → up b ≡ partByRun x p
   -- so two schedules, of as many rounds or not, end alike
   pub alike : (s u : Schedule) → Whole x s → Whole x u → played x s .parts ≡ played x u .parts
   -- no call of an open process is refused; one of a decided process is, with 11, and changes nothing

@@ -5,13 +5,13 @@ use mathlib.Core.Path.{_≡_}
 use Prim.Native.Nat.{ℕ}
 use mathlib.Core.Bool.{true, false, cond}
 use lib.Dec.{eqb}
-use lib.ListN.{replicate}
+use lib.ListN.{take, drop, replicate}
 use Rattle.consensus.specs.Instance.{Instance, correct, crashes, beforeSending, duringData, duringCommits}
 use Rattle.consensus.specs.FourProcesses.{four, firstCrashes, afterOneCommit, dataToTheLast, idleBesides}
 use Rattle.part_format.specs.PartState.{ValidBytes}
 use Rattle.part_format.specs.Case.{bytesIn}
 use Rattle.part_host.specs.Part.{Part, up, crashedIn}
-use Rattle.part_schedules.specs.Steps.{Step, unstarted}
+use Rattle.part_schedules.specs.Steps.{Step, unstarted, play}
 use Rattle.part_schedules.specs.Schedule.{RoundOrder, Schedule, roundSteps, scheduleSteps, played, crashesNow, RoundInOrder, InOrder}
 use Rattle.part_schedules.specs.Answers.{allAnswers}
 use Rattle.part_schedules.specs.ByRun.{partByRun}
@@ -178,6 +178,10 @@ pub record PremisesMet : Type 0 where
   pub ended : Ended (played afterOneCommit ascending) 4 endedBytes
   pub valid : ValidBytes endedBytes
   pub notStarted : starts 4 (roundSteps firstRound) ≡ false
+  -- it has decided when it has closed round 1, before the round is over
+  pub early : Ended (play afterOneCommit (take 11 (scheduleSteps ascending)) (unstarted afterOneCommit)) 4 endedBytes
+  pub notStartedLater : starts 4 (drop 11 (scheduleSteps ascending)) ≡ false
+  pub split : scheduleSteps ascending ≡ take 11 (scheduleSteps ascending) ++ drop 11 (scheduleSteps ascending)
   -- two tenders with their steps in turn, each with its own schedule
   pub firstTender : ofTender 1 mixed ≡ scheduleSteps ascending
   pub secondTender : ofTender 2 mixed ≡ scheduleSteps (passingSchedule dataToTheLast permuted)
