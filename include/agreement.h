@@ -140,10 +140,10 @@
  *   yields is taken once, when it speaks, and kept for each receiver until that one closes: the coordinator may have closed
  *   before, and would be refused. A process that crashes in a round is not closed in it, and keeps the bytes with which the
  *   round began; one that crashes before it sends anything need not have been called to speak. Whichever such order it is,
- *   each process ends in the same nine bytes, those that running the ticket with these proposals and crashes gives. A process
- *   that has decided may be called at any moment. The calls of several tenders may be mixed in any way that keeps this order
- *   in each, if their states and frames are kept apart. (The repository's examples/host.c draws such orders from a seed, for
- *   one tender or two.)
+ *   each process ends in the same nine bytes, those that the rounds of the ticket with these proposals and crashes give. A
+ *   process that has decided may be called at any moment. The calls of several tenders may be mixed in any way that keeps this
+ *   order in each, if their states and frames are kept apart. (The repository's examples/host.c draws such orders from a seed,
+ *   for one tender or two.)
  *
  *   One round of one process, in a host of its own (send, sent, heard_in, stop and decided are the
  *   host's):

@@ -1,7 +1,7 @@
 -- Paper 14 on one tender: every schedule in order leaves what the base's host has after as many rounds, by induction over the rounds; so it ends as the run says
 -- (`any-order`, `orders-no-later`). For well-formed instances. Assumes nothing else.
 use mathlib.Core.List.{List, [], _∷_, _++_, map}
-use mathlib.Core.Bool.{true, false}
+use mathlib.Core.Bool.{true}
 use mathlib.Core.Path.{_≡_, refl, sym, ap, _∙_}
 use Prim.Native.Nat.{ℕ, suc, _+_}
 use native.Mathlib.Numerals.{unary-clauses}
@@ -14,6 +14,7 @@ use Rattle.consensus.specs.Consensus.{IsProcess, UniformConsensus, NoLater}
 use Rattle.coordinator.specs.Pairing.{Paired}
 use Rattle.coordinator.specs.Run.{runOf, endOf}
 use Rattle.coordinator.specs.WellFormed.{WellFormed}
+use Rattle.part_format.specs.PartState.{ValidBytes}
 use Rattle.part_host.specs.Part.{Part, up, crashedIn, partOf, bytesKept}
 use Rattle.part_host.specs.Hearing.{heard}
 use Rattle.part_host.specs.Host.{partAfter, partsTo, partsOf, endPartOf}
@@ -27,13 +28,14 @@ use Rattle.part_schedules.specs.Schedule.{RoundOrder, Schedule, roundSte
 use Rattle.part_schedules.specs.Answers.{AllAnswered}
 use Rattle.part_schedules.specs.ByRun.{valueHeld, estimateIn, partByEnd, partByRun}
 use Rattle.part_schedules.specs.AnyOrder.{Whole, EnoughRounds, endsBy, latestBy, AnyOrder}
-use Rattle.part_schedules.specs.EndedCalls.{Ended, starts}
-use Rattle.part_schedules.proofs.EndedCalls.{ended-calls}
+use Rattle.part_schedules.specs.EndedCalls.{Ended}
+use Rattle.part_schedules.proofs.EndedCalls.{unstarted-behind, ended-calls}
 use Rattle.part_schedules.proofs.Phases.{play-append}
 use Rattle.part_schedules.proofs.Waiting.{none-open, ended-parts}
 use Rattle.part_schedules.proofs.Round.{atRound, round-in-order}
 use Rattle.part_schedules.proofs.Starts.{unstarted-nine, started-in-order}
-use Rattle.part_schedules.proofs.StartsAnswered.{answered-append, starts-answered}
+use Rattle.part_schedules.proofs.StartsAnswered.{answered-append, starts-taken, starts-answered}
+use Rattle.part_schedules.proofs.Refused.{ended-bytes}
 use Rattle.part_schedules.proofs.RoundAnswered.{round-answered}
 
 -- The part of a process at the end, by how the process ends.
@@ -118,16 +120,20 @@ module _ (x : Instance) (formed : WellFormed x) where
   unfolding partByRun partsOf endOf runOf
   end-by-run p process = by-end x p (parts-alike x formed (suc (x .resilience)) p (omega arith) process)
 
-  decided-early : (s : Schedule) → Whole x s → (before behind : List Step) → scheduleSteps s ≡ before ++ behind → (p : ℕ) → IsProcess x p → (b : List ℕ)
-      → Ended (play x before (unstarted x)) p b → starts p behind ≡ false → up b ≡ partByRun x p
-  unfolding played
-  decided-early s whole before behind split p process b ended other =
-      let played-on : played x s ≡ play x behind (play x before (unstarted x)) =
-      ap (λ (steps : List Step). play x steps (unstarted x)) split ∙ play-append x before behind (unstarted x)
+  decided-early : (s : Schedule) → Whole x s → (before behind : List Step) → stepsOfRounds (s .rounds) ≡ before ++ behind → (p : ℕ) → IsProcess x p
+      → (b : List ℕ) → Ended (play x before (play x (map start (s .starting)) (unstarted x))) p b → (up b ≡ partByRun x p) × ValidBytes b
+  unfolding played scheduleSteps partsOf
+  decided-early s whole before behind split p process b ended =
+      let begun = play x (map start (s .starting)) (unstarted x) in
+      let played-on : played x s ≡ play x behind (play x before begun) =
+      play-append x (map start (s .starting)) (stepsOfRounds (s .rounds)) (unstarted x)
+      ∙ ap (λ (steps : List Step). play x steps begun) split ∙ play-append x before behind begun
       in
-      sym (ended-calls .keeps x (play x before (unstarted x)) p b ended behind other)
-      ∙ sym (ap (λ (h : Hosted). partOf (h .parts) p) played-on)
-      ∙ ap (λ (parts : List Part). partOf parts p) (whole-parts s whole) ∙ end-by-run p process
+      let last : partOf (partsOf x) p ≡ up b =
+      sym (ap (λ (parts : List Part). partOf parts p) (whole-parts s whole)) ∙ ap (λ (h : Hosted). partOf (h .parts) p) played-on
+      ∙ ended-calls .keeps x (play x before begun) p b ended behind (unstarted-behind p (s .rounds) before behind split)
+      in
+      (sym last ∙ end-by-run p process, ended-bytes x formed (suc (x .resilience)) p process b last (ended .notOpen))
 
   pub whole-ends : (s : Schedule) → Whole x s → endsBy (played x s .parts) ≡ endByPart x
   unfolding endsBy endByPart endPartOf
@@ -142,7 +148,7 @@ module _ (x : Instance) (formed : WellFormed x) where
       record {
         afterRounds = schedule-played;
         anyBytes = λ parts nine order all.
-            started-in-order x formed order all parts nine ∙ sym (started-unstarted order all);
+            (started-in-order x formed order all parts nine ∙ sym (started-unstarted order all), starts-taken x formed order all parts nine);
         crashKeeps = λ s order ordered. crash-keeps s ordered order;
         through = rounds-through;
         byRun = λ s whole p process. rw (whole-parts s whole) (end-by-run p process);

@@ -1,6 +1,6 @@
 -- Calls of a process that is up and not open change nothing, wherever they stand, and it keeps its bytes (`ended-calls`). Assumes nothing.
-use mathlib.Core.List.{List, [], _∷_, _++_}
-use mathlib.Core.Path.{_≡_, refl, sym, ap, _∙_}
+use mathlib.Core.List.{List, [], _∷_, _++_, map}
+use mathlib.Core.Path.{_≡_, refl, sym, ap, subst, _∙_}
 use mathlib.Core.Bool.{Bool, true, false, cond, _||_}
 use Prim.Native.Nat.{ℕ}
 use lib.Dec.{eqb}
@@ -10,7 +10,7 @@ use Rattle.general.proofs.Tests.{by-equal}
 use Rattle.consensus.specs.Instance.{Instance, faultOf}
 use Rattle.part_host.specs.Part.{Part, up, crashedIn, partOf}
 use Rattle.part_schedules.specs.Steps.{Hosted, Step, start, speak, close, roundOver, heardOf, withBytes, startedWith, framesYielded, closedWith, leftAfter, changedAt, step, play}
-use Rattle.part_schedules.specs.Schedule.{isUp, upAndOpen}
+use Rattle.part_schedules.specs.Schedule.{RoundOrder, roundSteps, stepsOfRounds, isUp, upAndOpen}
 use Rattle.part_schedules.specs.Answers.{answers, allAnswers}
 use Rattle.part_schedules.specs.EndedCalls.{Ended, CallOf, toSpeak, toClose, starts, EndedCalls}
 use Rattle.part_schedules.proofs.Turns.{unchanged-at, length-changed, changed-at}
@@ -137,6 +137,42 @@ keeps-bytes x h p b ended [] other = ended .kept
 keeps-bytes x h p b ended (one ∷ steps) other =
     let (now, later) = starts-apart p one steps other in
     keeps-bytes x (step x one h) p b (step-ended x h p b ended one now) steps later
+
+-- No process is started in the steps of rounds, nor in what stands behind in them.
+starts-append : (p : ℕ) (a b : List Step) → starts p (a ++ b) ≡ false → starts p b ≡ false
+starts-append p [] b e = e
+starts-append p (one ∷ a) b e = starts-append p a b (starts-apart p one (a ++ b) e .1)
+
+joined-unstarted : (p : ℕ) (a b : List Step) → starts p a ≡ false → starts p b ≡ false → starts p (a ++ b) ≡ false
+unfolding starts
+joined-unstarted p [] b e f = f
+joined-unstarted p (start q ∷ a) b e f =
+    rw (or-false (eqb p q) (starts-apart p (start q) a e .0)) (joined-unstarted p a b (starts-apart p (start q) a e .1) f)
+joined-unstarted p (speak q ∷ a) b e f = joined-unstarted p a b e f
+joined-unstarted p (close q ∷ a) b e f = joined-unstarted p a b e f
+joined-unstarted p (roundOver ∷ a) b e f = joined-unstarted p a b e f
+
+spoken-unstarted : (p : ℕ) (order : List ℕ) → starts p (map speak order) ≡ false
+unfolding starts
+spoken-unstarted p [] = refl
+spoken-unstarted p (q ∷ order) = spoken-unstarted p order
+
+closed-unstarted : (p : ℕ) (order : List ℕ) → starts p (map close order) ≡ false
+unfolding starts
+closed-unstarted p [] = refl
+closed-unstarted p (q ∷ order) = closed-unstarted p order
+
+rounds-unstarted : (p : ℕ) (orders : List RoundOrder) → starts p (stepsOfRounds orders) ≡ false
+unfolding starts stepsOfRounds roundSteps
+rounds-unstarted p [] = refl
+rounds-unstarted p (order ∷ orders) =
+    joined-unstarted p (map speak (order .speaking) ++ (map close (order .closing) ++ (roundOver ∷ []))) (stepsOfRounds orders)
+    (joined-unstarted p (map speak (order .speaking)) (map close (order .closing) ++ (roundOver ∷ [])) (spoken-unstarted p (order .speaking))
+    (joined-unstarted p (map close (order .closing)) (roundOver ∷ []) (closed-unstarted p (order .closing)) refl))
+    (rounds-unstarted p orders)
+
+pub unstarted-behind : (p : ℕ) (orders : List RoundOrder) (before behind : List Step) → stepsOfRounds orders ≡ before ++ behind → starts p behind ≡ false
+unstarted-behind p orders before behind split = starts-append p before behind (subst (λ (steps : List Step). starts p steps ≡ false) split (rounds-unstarted p orders))
 
 pub ended-calls : EndedCalls
 ended-calls =

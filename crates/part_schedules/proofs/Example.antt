@@ -35,16 +35,16 @@ use Rattle.part_host.specs.Hearing.{bytesReaching, reachFrom, letThrough}
 use Rattle.part_host.specs.Host.{blank}
 use Rattle.part_host.specs.DecideAlike.{partState}
 use Rattle.part_schedules.specs.ByRun.{valueHeld, estimateIn, partByEnd, partByRun}
-use Rattle.part_schedules.specs.Steps.{unstarted, heardOf, withBytes, startedWith, framesYielded, closedWith, leftAfter, changedAt, step, play}
-use Rattle.part_schedules.specs.Schedule.{Schedule, roundSteps, stepsOfRounds, scheduleSteps, played, timesCalled, isUp, upAndOpen, crashesNow, crashesUnsent, mustSpeak, maySpeak, mustClose, mayClose, Calls, EachOnce, RoundInOrder, RoundsInOrder, InOrder}
+use Rattle.part_schedules.specs.Steps.{Hosted, speak, unstarted, heardOf, withBytes, startedWith, framesYielded, closedWith, leftAfter, changedAt, step, play}
+use Rattle.part_schedules.specs.Schedule.{RoundOrder, Schedule, roundSteps, stepsOfRounds, scheduleSteps, played, timesCalled, isUp, upAndOpen, crashesNow, crashesUnsent, mustSpeak, maySpeak, mustClose, mayClose, Calls, EachOnce, RoundInOrder, RoundsInOrder, InOrder}
 use Rattle.part_schedules.proofs.Turns.{times-other}
-use Rattle.part_schedules.specs.Answers.{answers, allAnswers}
+use Rattle.part_schedules.specs.Answers.{answers, due, allAnswers}
 use Rattle.part_schedules.specs.AnyOrder.{Whole, EnoughRounds, NineBytes}
 use Rattle.part_schedules.specs.EndedCalls.{Ended, starts}
 use Rattle.part_schedules.proofs.Tenders.{either-order}
 use Rattle.part_schedules.specs.Permutations.{among, passingOver, passingRounds, passingSchedule, AllPermuted, Permuted}
 use Rattle.part_schedules.specs.Tenders.{stepOne, playMixed, ofTender, allOf}
-use Rattle.part_schedules.specs.Example.{ascending, permuted, often, case1Left, afterAllCommits, case3Left, adoptedThenCrashed, adoptedLeft, leftPermuted, givenByRun, EndsAlike, answersPermuted, case1Answers, CallsAnswered, tenders, inTurn, mixed, case5Left, beginning, firstRound, endedBytes, usedParts, silentFirst, withoutFirst, PremisesMet}
+use Rattle.part_schedules.specs.Example.{ascending, permuted, often, case1Left, afterAllCommits, case3Left, adoptedThenCrashed, adoptedLeft, leftPermuted, givenByRun, EndsAlike, answersPermuted, case1Answers, adoptedAnswers, CallsAnswered, tenders, inTurn, mixed, case5Left, beginning, firstRound, endedBytes, usedParts, silentFirst, withoutFirst, PremisesMet}
 
 pub ends-alike : EndsAlike
 unfolding ascending permuted case1Left afterAllCommits case3Left dataToTheLast case5Left idleBesides adoptedThenCrashed adoptedLeft leftPermuted givenByRun digitsIn paired bytesIn member four firstCrashes afterOneCommit number numberFrom bytesOf mapFrom withinLimits proposalOf faultOf sends receives amongFirst reachAt reachIn crashesIn stateBytes stateFrom identityValid roundValid fieldsValid stateValid stateRefusal isOwnRound dataFrame commitFrame framesOf isDataFrame isCommitFrame messagesFrom startRefusal startState startBytes spokenBy speakRefusal speakYields heardBy stateAfter closedOn closeOnHeard closeState partOf isOpen outputRoom bytesKept bytesReaching reachFrom letThrough blank unstarted heardOf withBytes startedWith framesYielded closedWith leftAfter changedAt step play roundSteps stepsOfRounds scheduleSteps played isUp upAndOpen crashesNow crashesUnsent maySpeak mayClose among passingOver passingRounds passingSchedule arriving getsData getsCommit reach stateOf sentBy received afterOutcome after statesAfter isUndecided anyUndecided speaks carries carriedIn dataIn commitsIn initial withRound runTo runOf endOf valueHeld estimateIn partByEnd partByRun partState
@@ -61,8 +61,8 @@ ends-alike =
     }
 
 pub calls-answered : CallsAnswered
-unfolding permuted idleBesides answersPermuted case1Answers speakAnswer heardRefusal closeRefusal answers allAnswers member four firstCrashes afterOneCommit number numberFrom bytesOf mapFrom withinLimits proposalOf faultOf sends receives amongFirst reachAt reachIn crashesIn stateBytes stateFrom identityValid roundValid fieldsValid stateValid stateRefusal isOwnRound dataFrame commitFrame framesOf isDataFrame isCommitFrame messagesFrom startRefusal startState startBytes spokenBy speakRefusal speakYields heardBy stateAfter closedOn closeOnHeard closeState partOf isOpen outputRoom bytesKept bytesReaching reachFrom letThrough blank unstarted heardOf withBytes startedWith framesYielded closedWith leftAfter changedAt step play roundSteps stepsOfRounds scheduleSteps played isUp upAndOpen crashesNow crashesUnsent maySpeak mayClose among passingOver passingRounds passingSchedule
-calls-answered = record { ofCase1 = refl; ofCase7 = refl }
+unfolding permuted idleBesides adoptedThenCrashed answersPermuted case1Answers adoptedAnswers speakAnswer heardRefusal closeRefusal answers allAnswers member four firstCrashes afterOneCommit number numberFrom bytesOf mapFrom withinLimits proposalOf faultOf sends receives amongFirst reachAt reachIn crashesIn stateBytes stateFrom identityValid roundValid fieldsValid stateValid stateRefusal isOwnRound dataFrame commitFrame framesOf isDataFrame isCommitFrame messagesFrom startRefusal startState startBytes spokenBy speakRefusal speakYields heardBy stateAfter closedOn closeOnHeard closeState partOf isOpen outputRoom bytesKept bytesReaching reachFrom letThrough blank unstarted heardOf withBytes startedWith framesYielded closedWith leftAfter changedAt step play roundSteps stepsOfRounds scheduleSteps played isUp upAndOpen crashesNow crashesUnsent maySpeak mayClose among passingOver passingRounds passingSchedule
+calls-answered = record { ofCase1 = refl; ofCase7 = refl; ofAdopted = refl }
 
 -- ---- four processes, by tests that compute
 
@@ -120,6 +120,12 @@ each-once : (x : Instance) → x .processes ≡ 4 → (order : List ℕ) → cal
 unfolding EachOnce
 each-once x are-four order each = four-called x are-four (λ p. true) (λ p. true) order each
 
+-- A round is in order, by two tests.
+round-by-test : (x : Instance) → x .processes ≡ 4 → (h : Hosted) (order : RoundOrder) → calls (mustSpeak x h) (maySpeak h) (order .speaking) ≡ true
+    → calls (mustClose x h) (mayClose x h) (order .closing) ≡ true → RoundInOrder x h order
+round-by-test x are-four h order speak-calls close-calls =
+    record { speakCalls = four-called x are-four _ _ (order .speaking) speak-calls; closeCalls = four-called x are-four _ _ (order .closing) close-calls }
+
 -- No part is open, by a test.
 none-open : (x : Instance) → x .processes ≡ 4 → (s : Schedule) → everyOne (λ q. not (upAndOpen (partOf (played x s .parts) q))) four-processes ≡ true
     → (p : ℕ) → IsProcess x p → upAndOpen (partOf (played x s .parts) p) ≡ false
@@ -132,7 +138,7 @@ whole-ascending =
     record {
       inOrder = record {
         starts = each-once afterOneCommit refl _ refl;
-        rounds = (record { speakCalls = four-called afterOneCommit refl _ _ _ refl; closeCalls = four-called afterOneCommit refl _ _ _ refl }, (record { speakCalls = four-called afterOneCommit refl _ _ _ refl; closeCalls = four-called afterOneCommit refl _ _ _ refl }, tt));
+        rounds = (round-by-test afterOneCommit refl _ _ refl refl, (round-by-test afterOneCommit refl _ _ refl refl, tt));
       };
       noneOpen = none-open afterOneCommit refl ascending refl;
     }
@@ -143,7 +149,7 @@ whole-often =
     record {
       inOrder = record {
         starts = each-once afterOneCommit refl _ refl;
-        rounds = (record { speakCalls = four-called afterOneCommit refl _ _ _ refl; closeCalls = four-called afterOneCommit refl _ _ _ refl }, (record { speakCalls = four-called afterOneCommit refl _ _ _ refl; closeCalls = four-called afterOneCommit refl _ _ _ refl }, (record { speakCalls = four-called afterOneCommit refl _ _ _ refl; closeCalls = four-called afterOneCommit refl _ _ _ refl }, tt)));
+        rounds = (round-by-test afterOneCommit refl _ _ refl refl, (round-by-test afterOneCommit refl _ _ refl refl, (round-by-test afterOneCommit refl _ _ refl refl, (round-by-test afterOneCommit refl _ _ refl refl, tt))));
       };
       noneOpen = none-open afterOneCommit refl often refl;
     }
@@ -154,7 +160,7 @@ whole-without-first =
     record {
       inOrder = record {
         starts = each-once silentFirst refl _ refl;
-        rounds = (record { speakCalls = four-called silentFirst refl _ _ _ refl; closeCalls = four-called silentFirst refl _ _ _ refl }, (record { speakCalls = four-called silentFirst refl _ _ _ refl; closeCalls = four-called silentFirst refl _ _ _ refl }, tt));
+        rounds = (round-by-test silentFirst refl _ _ refl refl, (round-by-test silentFirst refl _ _ refl refl, tt));
       };
       noneOpen = none-open silentFirst refl withoutFirst refl;
     }
@@ -165,7 +171,7 @@ begins : InOrder afterOneCommit beginning × RoundInOrder afterOneCommit (played
 unfolding RoundsInOrder ascending beginning calls everyOne four-processes timesCalled four firstCrashes afterOneCommit number numberFrom bytesOf mapFrom withinLimits proposalOf faultOf sends receives amongFirst reachAt reachIn crashesIn stateBytes stateFrom identityValid roundValid fieldsValid stateValid stateRefusal isOwnRound dataFrame commitFrame framesOf isDataFrame isCommitFrame messagesFrom startRefusal startState startBytes spokenBy speakRefusal speakYields heardBy stateAfter closedOn closeOnHeard closeState partOf isOpen outputRoom bytesKept bytesReaching reachFrom letThrough blank unstarted heardOf withBytes startedWith framesYielded closedWith leftAfter changedAt step play roundSteps stepsOfRounds scheduleSteps played isUp upAndOpen crashesNow crashesUnsent mustSpeak maySpeak mustClose mayClose
 begins = (
   record { starts = each-once afterOneCommit refl _ refl; rounds = tt },
-  record { speakCalls = four-called afterOneCommit refl _ _ _ refl; closeCalls = four-called afterOneCommit refl _ _ _ refl },
+  round-by-test afterOneCommit refl _ _ refl refl,
   refl,
 )
 
@@ -174,10 +180,10 @@ ended-fourth : Ended (played afterOneCommit ascending) 4 endedBytes
 unfolding ascending endedBytes digitsIn paired bytesIn four firstCrashes afterOneCommit number numberFrom bytesOf mapFrom withinLimits proposalOf faultOf sends receives amongFirst reachAt reachIn crashesIn stateBytes stateFrom identityValid roundValid fieldsValid stateValid stateRefusal isOwnRound dataFrame commitFrame framesOf isDataFrame isCommitFrame messagesFrom startRefusal startState startBytes spokenBy speakRefusal speakYields heardBy stateAfter closedOn closeOnHeard closeState partOf isOpen outputRoom bytesKept bytesReaching reachFrom letThrough blank unstarted heardOf withBytes startedWith framesYielded closedWith leftAfter changedAt step play roundSteps stepsOfRounds scheduleSteps played isUp upAndOpen crashesNow crashesUnsent mustSpeak maySpeak mustClose mayClose
 ended-fourth = record { first = omega arith; last = omega arith; kept = refl; notOpen = refl }
 
-early-fourth : Ended (play afterOneCommit (take 11 (scheduleSteps ascending)) (unstarted afterOneCommit)) 4 endedBytes
-    × (starts 4 (drop 11 (scheduleSteps ascending)) ≡ false)
-    × (scheduleSteps ascending ≡ take 11 (scheduleSteps ascending) ++ drop 11 (scheduleSteps ascending))
-unfolding starts ascending endedBytes digitsIn paired bytesIn four firstCrashes afterOneCommit number numberFrom bytesOf mapFrom withinLimits proposalOf faultOf sends receives amongFirst reachAt reachIn crashesIn stateBytes stateFrom identityValid roundValid fieldsValid stateValid stateRefusal isOwnRound dataFrame commitFrame framesOf isDataFrame isCommitFrame messagesFrom startRefusal startState startBytes spokenBy speakRefusal speakYields heardBy stateAfter closedOn closeOnHeard closeState partOf isOpen outputRoom bytesKept bytesReaching reachFrom letThrough blank unstarted heardOf withBytes startedWith framesYielded closedWith leftAfter changedAt step play roundSteps stepsOfRounds scheduleSteps played isUp upAndOpen crashesNow crashesUnsent mustSpeak maySpeak mustClose mayClose
+early-fourth : Ended (play afterOneCommit (take 7 (stepsOfRounds (ascending .rounds))) (played afterOneCommit beginning)) 4 endedBytes
+    × (stepsOfRounds (ascending .rounds) ≡ take 7 (stepsOfRounds (ascending .rounds)) ++ drop 7 (stepsOfRounds (ascending .rounds)))
+    × (due (played afterOneCommit ascending) (speak 4) ≡ 11 ∷ [])
+unfolding beginning due ascending endedBytes digitsIn paired bytesIn four firstCrashes afterOneCommit number numberFrom bytesOf mapFrom withinLimits proposalOf faultOf sends receives amongFirst reachAt reachIn crashesIn stateBytes stateFrom identityValid roundValid fieldsValid stateValid stateRefusal isOwnRound dataFrame commitFrame framesOf isDataFrame isCommitFrame messagesFrom startRefusal startState startBytes spokenBy speakRefusal speakYields heardBy stateAfter closedOn closeOnHeard closeState partOf isOpen outputRoom bytesKept bytesReaching reachFrom letThrough blank unstarted heardOf withBytes startedWith framesYielded closedWith leftAfter changedAt step play roundSteps stepsOfRounds scheduleSteps played isUp upAndOpen crashesNow crashesUnsent mustSpeak maySpeak mustClose mayClose
 early-fourth = (record { first = omega arith; last = omega arith; kept = refl; notOpen = refl }, refl, refl)
 
 valid-fourth : ValidBytes endedBytes
@@ -229,9 +235,9 @@ premises-met =
       ended = ended-fourth;
       valid = valid-fourth;
       notStarted = refl;
+      refused = early-fourth .2;
       early = early-fourth .0;
-      notStartedLater = early-fourth .1;
-      split = early-fourth .2;
+      split = early-fourth .1;
       firstTender = mixed-ends .0;
       secondTender = mixed-ends .1;
       firstLeft = mixed-ends .2;

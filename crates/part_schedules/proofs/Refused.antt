@@ -49,13 +49,16 @@ module _ (x : Instance) (formed : WellFormed x) where
         rw (← same) (decided-valid p i v (record { isProcess = process; state = ends }))
     ended-valid within e (bothCrashed _) b has ended = absurd (let z : _≡_ {A = ℕ} 0 1 = cc in let w : ⊥ = omega arith in w)
 
-  pub ended-refused : (r p : ℕ) → IsProcess x p → (b : List ℕ) → partOf (partsTo x r) p ≡ up b → isOpen b ≡ false → stateRefusal b ≡ 11
-  ended-refused r p process b has ended = by-order r (suc (x .resilience)) (λ low. of-round r low has) (λ high. of-round (suc (x .resilience)) (omega arith) (later high))
+  pub ended-bytes : (r p : ℕ) → IsProcess x p → (b : List ℕ) → partOf (partsTo x r) p ≡ up b → isOpen b ≡ false → ValidBytes b
+  ended-bytes r p process b has ended =
+      by-order r (suc (x .resilience)) (λ low. of-round r low has) (λ high. of-round (suc (x .resilience)) (omega arith) (later high))
     where
-      of-round : (m : ℕ) → m ≤ suc (x .resilience) → partOf (partsTo x m) p ≡ up b → stateRefusal b ≡ 11
+      of-round : (m : ℕ) → m ≤ suc (x .resilience) → partOf (partsTo x m) p ≡ up b → ValidBytes b
       of-round m low e =
-          refused-11 b
-          (ended-valid m p process low (sym (state-at x m p (omega arith) (process .first) (omega arith))) (parts-alike x formed m p low process) b e ended) ended
+          ended-valid m p process low (sym (state-at x m p (omega arith) (process .first) (omega arith))) (parts-alike x formed m p low process) b e ended
 
       later : suc (x .resilience) < r → partOf (partsTo x (suc (x .resilience))) p ≡ up b
       later high = ap (λ (parts : List Part). partOf parts p) (sym (beyond-last x formed r (omega arith))) ∙ has
+
+  pub ended-refused : (r p : ℕ) → IsProcess x p → (b : List ℕ) → partOf (partsTo x r) p ≡ up b → isOpen b ≡ false → stateRefusal b ≡ 11
+  ended-refused r p process b has ended = refused-11 b (ended-bytes r p process b has ended) ended

@@ -84,6 +84,11 @@ module _ (x : Instance) (formed : WellFormed x) where
     all-starts order (changedAt q (startedWith x q) parts) S (stays-nine q parts nine) (λ p h. called p (times-more p q order h)),
   )
 
+  pub starts-taken : (order : List ℕ) → EachOnce x order → (parts : List Part) → NineBytes x parts
+      → AllAnswered x (record { round = 1; parts = parts; spoken = [] }) (map start order)
+  unfolding EachOnce
+  starts-taken order all parts nine = all-starts order parts [] nine (λ p h. all .only p h .0)
+
   pub starts-answered : (order : List ℕ) → EachOnce x order → AllAnswered x (unstarted x) (map start order)
-  unfolding EachOnce unstarted
-  starts-answered order all = all-starts order (unstarted x .parts) [] (unstarted-nine x) (λ p h. all .only p h .0)
+  unfolding unstarted
+  starts-answered order all = starts-taken order all (unstarted x .parts) (unstarted-nine x)

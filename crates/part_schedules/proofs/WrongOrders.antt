@@ -18,17 +18,18 @@ use Rattle.part_host.specs.Host.{blank}
 use Rattle.part_schedules.specs.Steps.{unstarted, heardOf, withBytes, startedWith, framesYielded, closedWith, leftAfter, changedAt, step, play}
 use Rattle.part_schedules.specs.Answers.{answers, allAnswers}
 use Rattle.consensus.specs.Instance.{withinLimits, proposalOf, faultOf}
-use Rattle.part_schedules.specs.WrongOrders.{partsAfterSteps, answersToSteps, closedEarly, TwoValues, crashingCloses, CrashedDecides, coordinatorSilent, NotHeard, crashedComesBack, CameBack, closedTwice, RoundAhead, leftOpen, RoundBehind, spokenTwice, HeardTwice, startedAgain, DecisionLost, NotStarted, WrongOrders}
+use Rattle.part_schedules.specs.WrongOrders.{partsAfterSteps, answersToSteps, closedEarly, TwoValues, crashingCloses, CrashedDecides, coordinatorSilent, NotHeard, crashedComesBack, CameBack, crashedSpeaks, HeardFromCrashed, closedTwice, RoundAhead, leftOpen, RoundBehind, spokenTwice, HeardTwice, startedAgain, DecisionLost, NotStarted, WrongOrders}
 use Rattle.part_schedules.specs.Example.{silentFirst}
 
 pub wrong-orders : WrongOrders
-unfolding partsAfterSteps closedEarly TwoValues crashingCloses CrashedDecides coordinatorSilent NotHeard silentFirst crashedComesBack CameBack closedTwice RoundAhead leftOpen RoundBehind spokenTwice HeardTwice startedAgain DecisionLost NotStarted answersToSteps digitsIn paired bytesIn speakAnswer heardRefusal closeRefusal answers allAnswers four firstCrashes afterOneCommit number numberFrom bytesOf mapFrom withinLimits proposalOf faultOf sends receives amongFirst reachAt reachIn crashesIn stateBytes stateFrom identityValid roundValid fieldsValid stateValid stateRefusal isOwnRound dataFrame commitFrame framesOf isDataFrame isCommitFrame messagesFrom startRefusal startState startBytes spokenBy speakRefusal speakYields heardBy stateAfter closedOn closeOnHeard closeState partOf isOpen outputRoom bytesKept bytesReaching reachFrom letThrough blank unstarted heardOf withBytes startedWith framesYielded closedWith leftAfter changedAt step play
+unfolding partsAfterSteps closedEarly TwoValues crashingCloses CrashedDecides coordinatorSilent NotHeard silentFirst crashedComesBack CameBack crashedSpeaks HeardFromCrashed closedTwice RoundAhead leftOpen RoundBehind spokenTwice HeardTwice startedAgain DecisionLost NotStarted answersToSteps digitsIn paired bytesIn speakAnswer heardRefusal closeRefusal answers allAnswers four firstCrashes afterOneCommit number numberFrom bytesOf mapFrom withinLimits proposalOf faultOf sends receives amongFirst reachAt reachIn crashesIn stateBytes stateFrom identityValid roundValid fieldsValid stateValid stateRefusal isOwnRound dataFrame commitFrame framesOf isDataFrame isCommitFrame messagesFrom startRefusal startState startBytes spokenBy speakRefusal speakYields heardBy stateAfter closedOn closeOnHeard closeState partOf isOpen outputRoom bytesKept bytesReaching reachFrom letThrough blank unstarted heardOf withBytes startedWith framesYielded closedWith leftAfter changedAt step play
 wrong-orders =
     record {
       closedBeforeAllSpoke = refl;
       closedThoughCrashing = refl;
       closedUnspoken = refl;
       closedThoughCrashed = refl;
+      spokeThoughCrashed = refl;
       closedAgain = (refl, refl);
       notClosed = refl;
       spokeAgain = refl;

@@ -10,14 +10,15 @@ use Rattle.consensus.specs.State.{State}
 use Rattle.consensus.specs.CrashCount.{crashCount}
 use Rattle.consensus.specs.Consensus.{IsProcess, UniformConsensus}
 use Rattle.coordinator.specs.Run.{runOf}
+use Rattle.part_format.specs.PartState.{ValidBytes}
 use Rattle.part_host.specs.Part.{Part, up, crashedIn, partOf, bytesKept}
 use Rattle.part_host.specs.Host.{partsTo}
 use Rattle.part_host.specs.PartEnds.{stateByPart}
 use Rattle.part_schedules.specs.Steps.{Step, start, unstarted, play}
-use Rattle.part_schedules.specs.Schedule.{RoundOrder, Schedule, roundSteps, scheduleSteps, played, upAndOpen, crashesNow, EachOnce, RoundInOrder, InOrder}
+use Rattle.part_schedules.specs.Schedule.{RoundOrder, Schedule, roundSteps, stepsOfRounds, scheduleSteps, played, upAndOpen, crashesNow, EachOnce, RoundInOrder, InOrder}
 use Rattle.part_schedules.specs.Answers.{AllAnswered}
 use Rattle.part_schedules.specs.ByRun.{partByRun}
-use Rattle.part_schedules.specs.EndedCalls.{Ended, starts}
+use Rattle.part_schedules.specs.EndedCalls.{Ended}
 
 -- A schedule in order, at whose end no part is open any more: the host may stop, or go on, in which case it calls decided parts alone.
 pub record Whole (x : Instance) (s : Schedule) : Type 0 where
@@ -43,9 +44,10 @@ latestBy x parts = suc (crashCount (x .pattern) (map stateByPart parts))
 pub record AnyOrder (x : Instance) : Type 0 where
   -- after any number of rounds, whatever the order in each, the parts are those of the base's host, which takes all processes at once
   pub afterRounds : (s : Schedule) → InOrder x s → played x s .parts ≡ partsTo x (length (s .rounds))
-  -- whatever bytes were lent, once all are started it makes no difference
+  -- whatever bytes were lent, starting is answered 0, and once all are started they make no difference
   pub anyBytes : (parts : List Part) → NineBytes x parts → (order : List ℕ) → EachOnce x order
-      → play x (map start order) (record { round = 1; parts = parts; spoken = [] }) ≡ play x (map start order) (unstarted x)
+      → (play x (map start order) (record { round = 1; parts = parts; spoken = [] }) ≡ play x (map start order) (unstarted x))
+      × AllAnswered x (record { round = 1; parts = parts; spoken = [] }) (map start order)
   -- a process that crashes in the next round keeps the bytes with which that round begins
   pub crashKeeps : (s : Schedule) (order : RoundOrder) → InOrder x s → RoundInOrder x (played x s) order → (p : ℕ) → IsProcess x p
       → crashesNow x (played x s) p ≡ true
@@ -54,9 +56,9 @@ pub record AnyOrder (x : Instance) : Type 0 where
   pub through : (s : Schedule) → InOrder x s → EnoughRounds x s → Whole x s
   -- each ends as the run says
   pub byRun : (s : Schedule) → Whole x s → (p : ℕ) → IsProcess x p → partOf (played x s .parts) p ≡ partByRun x p
-  -- one that has decided, also in the midst of a round, has the nine bytes already with which it ends
-  pub decidedEarly : (s : Schedule) → Whole x s → (before behind : List Step) → scheduleSteps s ≡ before ++ behind → (p : ℕ) → IsProcess x p → (b : List ℕ)
-      → Ended (play x before (unstarted x)) p b → starts p behind ≡ false → up b ≡ partByRun x p
+  -- one that has decided, also in the midst of a round, has the nine bytes already with which it ends, and they are a valid state
+  pub decidedEarly : (s : Schedule) → Whole x s → (before behind : List Step) → stepsOfRounds (s .rounds) ≡ before ++ behind → (p : ℕ) → IsProcess x p
+      → (b : List ℕ) → Ended (play x before (play x (map start (s .starting)) (unstarted x))) p b → (up b ≡ partByRun x p) × ValidBytes b
   -- so two schedules, of as many rounds or not, end alike
   pub alike : (s u : Schedule) → Whole x s → Whole x u → played x s .parts ≡ played x u .parts
   -- no call of an open process is refused; one of a decided process is, with 11, and changes nothing

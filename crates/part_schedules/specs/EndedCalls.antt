@@ -1,5 +1,5 @@
--- A process that is up and not open: it has decided (document 02, Paper 14, and document 01, refusal 11). It may be called or left out at any moment of any steps,
--- in order or not, and what it has decided stays.
+-- A process that is up and not open, as one that has decided (document 02, Paper 14, and document 01, refusal 11). It may be called or left out at any moment of any
+-- steps, in order or not, and keeps its bytes.
 use mathlib.Core.List.{List, [], _∷_}
 use mathlib.Core.Path.{_≡_}
 use Prim.Native.Nat.{ℕ, _≤_}

@@ -11,9 +11,9 @@ use Rattle.consensus.specs.FourProcesses.{four, firstCrashes, afterOneCommit, d
 use Rattle.part_format.specs.PartState.{ValidBytes}
 use Rattle.part_format.specs.Case.{bytesIn}
 use Rattle.part_host.specs.Part.{Part, up, crashedIn}
-use Rattle.part_schedules.specs.Steps.{Step, unstarted, play}
-use Rattle.part_schedules.specs.Schedule.{RoundOrder, Schedule, roundSteps, scheduleSteps, played, crashesNow, RoundInOrder, InOrder}
-use Rattle.part_schedules.specs.Answers.{allAnswers}
+use Rattle.part_schedules.specs.Steps.{Step, speak, unstarted, play}
+use Rattle.part_schedules.specs.Schedule.{RoundOrder, Schedule, roundSteps, stepsOfRounds, scheduleSteps, played, crashesNow, RoundInOrder, InOrder}
+use Rattle.part_schedules.specs.Answers.{due, allAnswers}
 use Rattle.part_schedules.specs.ByRun.{partByRun}
 use Rattle.part_schedules.specs.AnyOrder.{Whole, EnoughRounds, NineBytes}
 use Rattle.part_schedules.specs.EndedCalls.{Ended, starts}
@@ -40,12 +40,13 @@ permuted =
           ∷ inRound (4 ∷ 3 ∷ 2 ∷ 1 ∷ []) (1 ∷ 4 ∷ 2 ∷ 3 ∷ []) ∷ [];
     }
 
--- Processes that have decided are called as often as the host likes: process 4 twice to speak in round 2 and not to close, and twice to close in round 3.
+-- Processes that have decided are called as often as the host likes: process 4 twice to speak in round 2 and not to close, and twice to close in round 3; process 3 in a
+-- round behind t + 1.
 unfoldable pub often : Schedule
 often =
     record {
       starting = 1 ∷ 2 ∷ 3 ∷ 4 ∷ [];
-      rounds = inRound (1 ∷ 2 ∷ 3 ∷ 4 ∷ []) (4 ∷ 2 ∷ 3 ∷ []) ∷ inRound (4 ∷ 3 ∷ 4 ∷ 2 ∷ []) (2 ∷ 3 ∷ []) ∷ inRound [] (4 ∷ 2 ∷ 4 ∷ []) ∷ [];
+      rounds = inRound (1 ∷ 2 ∷ 3 ∷ 4 ∷ []) (4 ∷ 2 ∷ 3 ∷ []) ∷ inRound (4 ∷ 3 ∷ 4 ∷ 2 ∷ []) (2 ∷ 3 ∷ []) ∷ inRound [] (4 ∷ 2 ∷ 4 ∷ []) ∷ inRound (3 ∷ []) [] ∷ [];
     }
 
 -- With these parts case 1 ends: process 1 crashed in round 1, the others have decided 10.
@@ -120,9 +121,18 @@ case1Answers =
     ++ (0 ∷ 8 ∷ 11 ∷ []) ++ (11 ∷ 0 ∷ 0 ∷ [])
     ++ (11 ∷ 11 ∷ 11 ∷ []) ++ (11 ∷ 11 ∷ 11 ∷ [])
 
+-- Process 2 of the last instance crashes in round 2 before it sends: it is called to speak, and yields; it is not called to close, and from round 3 on passed over.
+unfoldable pub adoptedAnswers : List ℕ
+adoptedAnswers =
+    (0 ∷ 0 ∷ 0 ∷ 0 ∷ [])
+    ++ (0 ∷ 0 ∷ 0 ∷ 8 ∷ []) ++ (0 ∷ 0 ∷ 0 ∷ [])
+    ++ (0 ∷ 8 ∷ 0 ∷ []) ++ (0 ∷ 0 ∷ [])
+    ++ (0 ∷ 8 ∷ []) ++ (0 ∷ 0 ∷ [])
+
 pub record CallsAnswered : Type 0 where
   pub ofCase1 : answersPermuted afterOneCommit ≡ case1Answers
   pub ofCase7 : answersPermuted idleBesides ≡ case1Answers
+  pub ofAdopted : answersPermuted adoptedThenCrashed ≡ adoptedAnswers
 
 -- Case 1 is tender 1, and any other number case 5.
 unfoldable pub tenders : ℕ → Instance
@@ -151,7 +161,7 @@ endedBytes = bytesIn "04 04 02 01 01 0000000A"
 unfoldable pub usedParts : List Part
 usedParts = replicate 4 (up endedBytes)
 
--- Case 1 but that process 1 crashes before it sends, and is not called to speak.
+-- Case 1 but that process 1 crashes before it sends; and orders in which it is not called to speak.
 unfoldable pub silentFirst : Instance
 silentFirst = firstCrashes beforeSending
 
@@ -178,10 +188,11 @@ pub record PremisesMet : Type 0 where
   pub ended : Ended (played afterOneCommit ascending) 4 endedBytes
   pub valid : ValidBytes endedBytes
   pub notStarted : starts 4 (roundSteps firstRound) ≡ false
-  -- it has decided when it has closed round 1, before the round is over
-  pub early : Ended (play afterOneCommit (take 11 (scheduleSteps ascending)) (unstarted afterOneCommit)) 4 endedBytes
-  pub notStartedLater : starts 4 (drop 11 (scheduleSteps ascending)) ≡ false
-  pub split : scheduleSteps ascending ≡ take 11 (scheduleSteps ascending) ++ drop 11 (scheduleSteps ascending)
+  -- a call of it is refused
+  pub refused : due (played afterOneCommit ascending) (speak 4) ≡ 11 ∷ []
+  -- it has decided when it has closed round 1, before the round is over: seven steps behind the starts
+  pub early : Ended (play afterOneCommit (take 7 (stepsOfRounds (ascending .rounds))) (played afterOneCommit beginning)) 4 endedBytes
+  pub split : stepsOfRounds (ascending .rounds) ≡ take 7 (stepsOfRounds (ascending .rounds)) ++ drop 7 (stepsOfRounds (ascending .rounds))
   -- two tenders with their steps in turn, each with its own schedule
   pub firstTender : ofTender 1 mixed ≡ scheduleSteps ascending
   pub secondTender : ofTender 2 mixed ≡ scheduleSteps (passingSchedule dataToTheLast permuted)

@@ -1,5 +1,5 @@
--- What becomes of desks whose host does not keep to Paper 14's order (document 02): for each condition on a schedule, steps that are in order but for it, and the parts
--- with which they end or what is answered.
+-- What becomes of desks whose host does not keep to Paper 14's order (document 02): steps that break a condition on schedules, and the parts with which they end or
+-- what is answered.
 use mathlib.Core.List.{List, [], _∷_, _++_, map}
 use mathlib.Core.Path.{_≡_}
 use Prim.Native.Nat.{ℕ}
@@ -33,7 +33,7 @@ TwoValues =
     ∷ up (bytesIn "04 04 02 01 01 0000000A")
     ∷ []
 
--- Case 1: process 1, which crashes in round 1, closes it, and has decided.
+-- Case 1: process 1, whose failure line is of round 1, closes it. It has decided, and does not go dark.
 unfoldable pub crashingCloses : List Step
 crashingCloses =
     speak 1 ∷ speak 2 ∷ speak 3 ∷ speak 4 ∷ close 1 ∷ close 2 ∷ close 3 ∷ close 4 ∷ roundOver
@@ -63,8 +63,8 @@ NotHeard =
     ∷ up (bytesIn "04 04 02 01 01 0000000A")
     ∷ []
 
--- The same instance but that process 1 crashes before it sends (`silentFirst`): it comes back in round 2 and closes on nothing, in its own round 1. It has decided 10, and
--- the others decide 20.
+-- Case 1 but that process 1 crashes before it sends (`silentFirst`): it comes back in round 2 and closes on nothing, in its own round 1. It has decided 10, and the others
+-- decide 20.
 unfoldable pub crashedComesBack : List Step
 crashedComesBack =
     speak 1 ∷ speak 2 ∷ speak 3 ∷ speak 4 ∷ close 2 ∷ close 3 ∷ close 4 ∷ roundOver
@@ -79,7 +79,17 @@ CameBack =
     ∷ up (bytesIn "04 04 02 02 01 00000014")
     ∷ []
 
--- The same: process 3 closes round 1 twice and is a round ahead, in its own. In round 2 it yields frames beside those of process 2, and neither it nor process 4 takes
+-- Case 1: process 1, which has crashed in round 1, is called to speak in round 2. Its frames are of round 1, and the others refuse what they hear with 12.
+unfoldable pub crashedSpeaks : List Step
+crashedSpeaks =
+    speak 1 ∷ speak 2 ∷ speak 3 ∷ speak 4 ∷ close 2 ∷ close 3 ∷ close 4 ∷ roundOver
+    ∷ speak 1 ∷ speak 2 ∷ speak 3 ∷ close 2 ∷ close 3 ∷ roundOver ∷ []
+
+unfoldable pub HeardFromCrashed : Type 0
+HeardFromCrashed =
+    answersToSteps afterOneCommit crashedSpeaks ≡ (0 ∷ 0 ∷ 0 ∷ 0 ∷ []) ++ (8 ∷ 0 ∷ 0 ∷ 0 ∷ []) ++ (0 ∷ 0 ∷ 0 ∷ []) ++ (8 ∷ 8 ∷ 0 ∷ []) ++ (12 ∷ 12 ∷ [])
+
+-- `silentFirst`: process 3 closes round 1 twice and is a round ahead, in its own. In round 2 it yields frames beside those of process 2, and neither it nor process 4 takes
 -- what it hears: refusal 12.
 unfoldable pub closedTwice : List Step
 closedTwice =
@@ -139,6 +149,7 @@ pub record WrongOrders : Type 0 where
   pub closedThoughCrashing : CrashedDecides
   pub closedUnspoken : NotHeard
   pub closedThoughCrashed : CameBack
+  pub spokeThoughCrashed : HeardFromCrashed
   pub closedAgain : RoundAhead
   pub notClosed : RoundBehind
   pub spokeAgain : HeardTwice
