@@ -5,7 +5,8 @@
 # make picture TICKET=FILE    the same as a picture, in target/pictures/ or PICTURE=FILE
 # make quote TICKET=FILE COSTS=FILE
 #                             what each process quotes for a tender: COSTS has the direct cost of each tender line, in pence, on a line by itself
-# make test                   everything from nothing: proofs, must-fail edits, programs, and the evidence beyond the proofs
+# make test                   everything from nothing: proofs, must-fail edits, programs, and the evidence beyond the proofs; what each part took.
+#                             (The wrong programs beside the gate are not tried here.)
 # make vectors                compute the definitions on every vector of tests/vectors/
 # make vectors-part           the same on a part that has every kind of vector
 # make library-test           the compiled library on every vector of tests/vectors/
@@ -14,7 +15,9 @@
 # make show-test              explain and picture on every ticket of tests/vectors/, the settling round and the reasons as the library answers them
 # make second-test            the second implementation's own tests
 # make wrong-worlds           wrong rules of the protocol, and a counterexample to each claim that fails under them
-# make unused                 list definitions, lemmas and imports that nothing uses, and edits that docs/COVERAGE.md names and that are not there
+# make unused                 list definitions, lemmas and imports that nothing uses, and promises that no must-fail edit serves
+# make wrong-programs         the wrong programs beside the gate: of the crates that changed since theirs were refused, CRATES='a b', or ALL=1
+# make costs                  instructions of every exported call on stored tickets beside the stored counts; STORE=1 stores them. It needs valgrind
 # make compare                the proved library against the second implementation: SEED=1 COUNT=1000000
 # make bench                  speed of the proved library beside the second implementation, which goes message by message
 # make fuzz                   a coverage-guided fuzzer over the C interface: SECONDS=60. It needs clang with its fuzzer
@@ -38,8 +41,8 @@ VERSION = $(shell sed -n 's/^.define UC_VERSION "\(.*\)"/\1/p' include/agreement
 COVERAGE_FLAGS = -Cpasses=sancov-module -Cllvm-args=-sanitizer-coverage-level=3 -Cllvm-args=-sanitizer-coverage-inline-8bit-counters \
   -Cllvm-args=-sanitizer-coverage-pc-table -Cllvm-args=-sanitizer-coverage-trace-compares
 
-.PHONY: all help prove ticket-named simulate-built show-built run explain picture quote test vectors vectors-part unused second-test wrong-worlds library-test host-test \
-  interface-test show-test compare compare-short bench fuzz pictures install
+.PHONY: all help prove ticket-named simulate-built show-built run explain picture quote test built vectors vectors-part unused second-test wrong-worlds wrong-programs \
+  library-test host-test interface-test show-test compare compare-short costs bench fuzz pictures install
 
 EXAMPLES = host frames report reasons quote
 
@@ -84,13 +87,17 @@ target/bin/simulate: $(SOURCES)
 	@touch $@
 
 test:
-	@tools/test
+	@tools/in-memory tools/test
+
+# What several parts of the test need.
+built: $(LIBRARY) target/bin/simulate target/bin/calls target/bin/reasons
+	$(SECOND) build --quiet --release -p against
 
 vectors:
-	tools/try-vectors
+	tools/in-memory tools/try-vectors
 
 vectors-part:
-	tools/try-vectors --part
+	tools/in-memory tools/try-vectors --part
 
 $(LIBRARY): $(SOURCES)
 	rt staticlib agreement
@@ -122,7 +129,16 @@ show-test: target/bin/simulate target/bin/reasons target/bin/calls
 
 unused:
 	tools/unused
-	tools/named
+	tools/promises
+
+wrong-programs:
+	tools/in-memory tools/wrong-programs $(if $(ALL),--all) $(CRATES)
+
+costs: $(LIBRARY)
+	@command -v valgrind > /dev/null || { echo 'make costs: it needs valgrind, which is not here' >&2; exit 2; }
+	mkdir -p target/bin
+	$(CC) $(CFLAGS_STRICT) tests/costs.c $(LIBRARY) -o target/bin/costs
+	tools/costs $(if $(STORE),--store) target/bin/costs
 
 second-test:
 	$(SECOND) test --quiet

@@ -3,7 +3,7 @@
 
 use std::collections::BTreeSet;
 use std::fs;
-use std::path::{Path, PathBuf};
+use std::path::Path;
 
 use second::generate;
 use second::rng::Rng;
@@ -61,11 +61,18 @@ fn in_a_wrong_world_just_the_claims_fail_that_it_names() {
 }
 
 /// The crates whose definitions the worlds are wrong about.
-const PROTOCOL: [&str; 2] = ["consensus", "coordinator"];
+const PROTOCOL: [&str; 3] = ["consensus", "coordinator", "coordinator_laws"];
 
-/// The folder of a crate's edits.
-fn edits_of(of_crate: &str) -> PathBuf {
-    Path::new(env!("CARGO_MANIFEST_DIR")).join("../crates").join(of_crate).join("must-fail")
+/// The crate of answers, of whose edits some have a world.
+const ANSWERS: &str = "answers";
+
+/// A crate's edits, by name: those that the gate tries, and those beside it.
+fn edits_of(of_crate: &str) -> BTreeSet<String> {
+    let place = Path::new(env!("CARGO_MANIFEST_DIR")).join("../crates").join(of_crate);
+    let folders = ["must-fail", "wrong-programs"].map(|name| place.join(name));
+    let entries = folders.iter().filter_map(|folder| fs::read_dir(folder).ok()).flatten();
+    let paths = entries.map(|entry| entry.expect("an entry").path());
+    paths.filter_map(|path| Some(path.file_stem()?.to_str()?.to_owned())).collect()
 }
 
 #[test]
@@ -73,9 +80,9 @@ fn every_edit_of_the_protocol_has_a_world() {
     let names: BTreeSet<&str> = worlds().map(|world| world.name).collect();
     assert_eq!(names.len(), worlds().count());
     for of_crate in PROTOCOL {
-        for entry in fs::read_dir(edits_of(of_crate)).expect("the edits of the protocol") {
-            let path = entry.expect("an entry").path();
-            let name = path.file_stem().and_then(|stem| stem.to_str()).expect("a name");
+        let edits = edits_of(of_crate);
+        assert!(!edits.is_empty(), "{of_crate}");
+        for name in edits {
             assert!(names.contains(format!("{of_crate}/{name}").as_str()), "{of_crate}/{name}");
         }
     }
@@ -84,9 +91,8 @@ fn every_edit_of_the_protocol_has_a_world() {
 #[test]
 fn a_world_that_is_named_by_an_edit_has_it() {
     for (of_crate, name) in worlds().filter_map(World::edit) {
-        assert!(PROTOCOL.contains(&of_crate) || of_crate == "formats", "{of_crate}/{name}");
-        let edit = edits_of(of_crate).join(format!("{name}.edit"));
-        assert!(edit.is_file(), "{of_crate}/{name}");
+        assert!(PROTOCOL.contains(&of_crate) || of_crate == ANSWERS, "{of_crate}/{name}");
+        assert!(edits_of(of_crate).contains(name), "{of_crate}/{name}");
     }
 }
 
@@ -180,7 +186,7 @@ fn the_reasons_of_cases_1_and_6() {
         ("coordinator/crashing-coordinator-has-reason-1", "case 1", &[1, 3, 3, 2, 7, 1, 2, 7]),
         ("who hears a coordinator that crashes has reason 5", "case 1", &[6, 5, 5, 5, 7, 1, 2, 7]),
         ("coordinator/crash-in-the-round-is-reason-7", "case 1", &[7, 3, 3, 2, 7, 1, 2, 7]),
-        ("coordinator/who-decides-has-reason-7-in-that-round", "case 1", &[6, 3, 3, 7, 7, 7, 7, 7]),
+        ("coordinator_laws/who-decides-has-reason-7-in-that-round", "case 1", &[6, 3, 3, 7, 7, 7, 7, 7]),
     ];
     for (world, run, reasons) in figures {
         assert_eq!(said(world, run).reasons, reasons, "{world}");
@@ -304,11 +310,11 @@ fn other_counts_by_process_in_case_1() {
         ("coordinator/commits-kept-as-data-of-their-sender", [(1, 1), (1, 1), (0, 0), (0, 0)]),
         ("coordinator/messages-kept-for-the-next-process", [(0, 0), (3, 1), (1, 1), (0, 0)]),
         ("coordinator/every-process-has-the-total", [(4, 2); 4]),
-        ("formats/commits-of-a-process-before-its-data", [(1, 3), (1, 1), (0, 0), (0, 0)]),
-        ("formats/counts-of-the-next-process", [(1, 1), (0, 0), (0, 0), (0, 0)]),
-        ("formats/total-in-every-line", [(4, 2); 4]),
+        ("answers/commits-of-a-process-before-its-data", [(1, 3), (1, 1), (0, 0), (0, 0)]),
+        ("answers/counts-of-the-next-process", [(1, 1), (0, 0), (0, 0), (0, 0)]),
+        ("answers/total-in-every-line", [(4, 2); 4]),
         ("the counts of all stand in the first line", [(4, 2), (0, 0), (0, 0), (0, 0)]),
-        ("formats/crashed-process-shows-no-messages", [(0, 0), (1, 1), (0, 0), (0, 0)]),
+        ("answers/crashed-process-shows-no-messages", [(0, 0), (1, 1), (0, 0), (0, 0)]),
         ("a crashed process has no data", [(0, 1), (1, 1), (0, 0), (0, 0)]),
         ("counts are cut to one bit", [(1, 1), (1, 1), (0, 0), (0, 0)]),
     ];
@@ -358,7 +364,7 @@ fn other_rounds_that_settle() {
         ("coordinator/settled-by-who-never-crashes", "one crashes later", &[1, 2, 3]),
         ("coordinator/round-0-settles", "case 2", &[0, 1]),
         ("coordinator/settles-after-the-end", "case 1", &[1, 2, 3]),
-        ("formats/only-the-last-round-settles", "case 1", &[2]),
+        ("answers/only-the-last-round-settles", "case 1", &[2]),
     ];
     for (world, run, settling_rounds) in figures {
         assert_eq!(said(world, run).settling_rounds, settling_rounds, "{world}");

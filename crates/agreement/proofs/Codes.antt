@@ -3,11 +3,11 @@ use mathlib.Core.List.{List}
 use mathlib.Core.Path.{_≡_, refl}
 use Prim.Native.Nat.{ℕ}
 use native.Mathlib.Omega.{arith}
-use Rattle.formats.specs.Reading.{Reading, accepted, refused}
+use Rattle.ticket_format.specs.Reading.{Reading, accepted, refused}
 use Rattle.running.specs.Answer.{answerOf}
 use Rattle.running.specs.declared.RunAnswer.{RunAnswer}
 use Rattle.running.specs.declared.RunAnswer.the-variants.{Written, Refused}
-use Rattle.formats.specs.Code.{codeOf, refusalCode, sizeCode, numberCode}
+use Rattle.answers.specs.Code.{codeOf, refusalCode, sizeCode, numberCode}
 use Rattle.pricing_format.specs.QuoteCall.{placeAfter, QuotingCall}
 
 module _ (answer : RunAnswer) where

@@ -17,9 +17,9 @@ use Rattle.coordinator.specs.Undecided.{isUndecided, anyUndecided}
 use Rattle.coordinator.specs.Count.{speaks, carries, carriedIn, dataIn, commitsIn}
 use Rattle.consensus.specs.CrashCount.{isIdle, countsAsCrash, crashCount}
 use Rattle.coordinator.specs.Run.{initial, withRound, runTo, runOf, crashesOf, endOf, latestOf}
-use Rattle.coordinator.specs.CountsBySets.{dataSetAt, commitSetAt, sentSet, onesInCommon}
-use Rattle.coordinator.specs.MessagesBySender.{sentAfter, dataBy, commitsBy}
-use Rattle.coordinator.specs.IdleLines.{faultLeft, withoutIdle}
+use Rattle.coordinator.specs.SentSets.{dataSetAt, commitSetAt, sentSet, onesInCommon}
+use Rattle.coordinator.specs.SentBy.{sentAfter, dataBy, commitsBy}
+use Rattle.coordinator.specs.WithoutIdle.{faultLeft, withoutIdle}
 use Rattle.coordinator.specs.Settling.{valuesHeld, allAre, oneValue, qualifies, firstSettling}
 use Rattle.coordinator.specs.Reason.{stateAtStart, heardIn, reasonHearing, reasonFrom, reasonOf, reasonsIn, reasonsTo, reasonsOf}
 use Rattle.consensus.specs.FourProcesses.{four, firstCrashes, afterOneCommit, dataToTheLast, idleBesides, idleAlone}
@@ -32,7 +32,7 @@ unfolding setsIn dataSetAt commitSetAt sentSet onesInCommon onesIn ones64 setOf 
 worked-runs =
     record {
       number = refl;
-      asWorked = (refl, (refl, (refl, (refl, (refl, (refl, (refl, (refl, (refl, (refl, (refl, (refl, (refl, (refl, (refl, (refl, (refl, tt)))))))))))))))));
+      asWorked = (refl, (refl, (refl, (refl, (refl, (refl, (refl, (refl, (refl, (refl, (refl, (refl, (refl, (refl, (refl, (refl, (refl, (refl, tt))))))))))))))))));
       idleTakenOut = refl;
       otherLeft = refl;
       dataAtStep1 = refl;

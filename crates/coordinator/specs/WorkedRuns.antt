@@ -7,13 +7,13 @@ use lib.ListN.{length}
 use Rattle.consensus.specs.Instance.{Instance, CrashPoint, faultOf}
 use Rattle.coordinator.specs.Undecided.{undecidedAmong}
 use Rattle.coordinator.specs.Run.{runTo, lastRound, runOf, crashesOf, latestOf}
-use Rattle.coordinator.specs.CountsBySets.{dataSetAt, commitSetAt, sentSet, onesInCommon}
-use Rattle.coordinator.specs.MessagesBySender.{dataBy, commitsBy}
+use Rattle.coordinator.specs.SentSets.{dataSetAt, commitSetAt, sentSet, onesInCommon}
+use Rattle.coordinator.specs.SentBy.{dataBy, commitsBy}
 use Rattle.coordinator.specs.Settling.{qualifies, firstSettling}
 use Rattle.coordinator.specs.Reason.{reasonsOf}
-use Rattle.coordinator.specs.SpeakerBound.{mostMessages, mostCommits}
+use Rattle.coordinator.specs.SpeakerLimits.{mostMessages, mostCommits}
 use Rattle.consensus.specs.FourProcesses.{afterOneCommit, idleBesides}
-use Rattle.coordinator.specs.IdleLines.{withoutIdle}
+use Rattle.coordinator.specs.WithoutIdle.{withoutIdle}
 use Rattle.coordinator.specs.WorkedTable.{WorkedRun, setPartlyCounted, commitsPartlyCounted, workedRuns}
 
 -- The rounds that qualify, of rounds 0 to r.
@@ -50,9 +50,9 @@ unfoldable pub setsIn : (at : (n r : ℕ) → CrashPoint → ℕ) → Instance �
 setsIn at x r =
     sentSet at (x .processes) r (faultOf x r) ∷ undecidedAmong (x .processes) (runTo x (r - 1) .states) ∷ onesInCommon at x r (runTo x (r - 1) .states) ∷ []
 
--- The claim: so are the 17 runs of the table.
+-- The claim: so are the 18 runs of the table.
 pub record WorkedRuns : Type 0 where
-  pub number : length workedRuns ≡ 17
+  pub number : length workedRuns ≡ 18
   pub asWorked : AsWorked workedRuns
   -- case 7 without its idle line is case 1, and the line of case 1 is not idle
   pub idleTakenOut : withoutIdle idleBesides ≡ afterOneCommit

@@ -1,6 +1,6 @@
 -- Runs worked out by hand (document 01, 'Worked runs', cases 1 to 9; 'The result', last paragraph, for the rounds that qualify for settling; document 02,
 -- Papers 2 and 4, for what counts of what each process sent, Paper 6, for the settling round, and Paper 7, for the reasons).
--- Cases 1 to 12 as texts, with their results and refusals, are in crate formats.
+-- Cases 1 to 12 as texts, with their results and refusals, are in crate answers.
 use mathlib.Core.List.{List, [], _∷_, _++_}
 use Prim.Native.Nat.{ℕ}
 use Rattle.consensus.specs.Instance.{Instance, correct, crashes, beforeSending, duringData, duringCommits}
@@ -94,6 +94,13 @@ case7 =
 abbrev pub case8 : WorkedRun
 case8 =
     row idleAlone case8Ends
+    (1 ∷ 0 ∷ 1 ∷ 3 ∷ 3 ∷ []) (3 ∷ 0 ∷ 0 ∷ 0 ∷ []) (3 ∷ 0 ∷ 0 ∷ 0 ∷ []) (1 ∷ 6 ∷ 3 ∷ []) (1 ∷ []) 1
+    (1 ∷ 2 ∷ 2 ∷ 2 ∷ [])
+
+-- Only a line of process 1, of a round after its own: it sends all its messages, and the line is idle.
+abbrev pub idleCoordinator : WorkedRun
+idleCoordinator =
+    row (four (crashes 2 beforeSending ∷ correct ∷ correct ∷ correct ∷ [])) case8Ends
     (1 ∷ 0 ∷ 1 ∷ 3 ∷ 3 ∷ []) (3 ∷ 0 ∷ 0 ∷ 0 ∷ []) (3 ∷ 0 ∷ 0 ∷ 0 ∷ []) (1 ∷ 6 ∷ 3 ∷ []) (1 ∷ []) 1
     (1 ∷ 2 ∷ 2 ∷ 2 ∷ [])
 
@@ -211,4 +218,4 @@ valueZero =
 unfoldable pub workedRuns : List WorkedRun
 workedRuns =
     case1 ∷ case2 ∷ case3 ∷ case4 ∷ case5 ∷ case6 ∷ case7 ∷ case8 ∷ case9 ∷ crashesLater ∷ silentAtLast ∷ noCommit ∷ twoReached
-    ∷ setPartlyCounted ∷ commitsPartlyCounted ∷ equalProposals ∷ valueZero ∷ []
+    ∷ setPartlyCounted ∷ commitsPartlyCounted ∷ equalProposals ∷ valueZero ∷ idleCoordinator ∷ []

@@ -22,9 +22,9 @@ use Rattle.coordinator.specs.Round.{received, statesAfter}
 use Rattle.coordinator.specs.Undecided.{isUndecided}
 use Rattle.coordinator.specs.Count.{speaks, carriedIn, dataIn, commitsIn}
 use Rattle.coordinator.specs.Run.{withRound}
-use Rattle.coordinator.proofs.SentSets.{none-to-itself}
-use Rattle.coordinator.proofs.Carried.{carried-size}
-use Rattle.coordinator.proofs.Pointwise.{receivedIn, states-ext, round-state}
+use Rattle.coordinator_laws.proofs.SentSets.{none-to-itself}
+use Rattle.coordinator_laws.proofs.Carried.{carried-size}
+use Rattle.coordinator_laws.proofs.Pointwise.{receivedIn, states-ext, round-state}
 use Rattle.tables.specs.declared.RunTable.{RunTable}
 use Rattle.tables.specs.RunOfTable.{statesIn, runOver, runFrom}
 use Rattle.tables.proofs.Places.{length-states-over, state-over}

@@ -15,17 +15,17 @@ use Rattle.coordinator.specs.Undecided.{isUndecided, anyUndecided}
 use Rattle.coordinator.specs.Run.{Run, initial, withRound, runTo}
 use Rattle.consensus.specs.WellFormed.{FaultAllowedBy}
 use Rattle.coordinator.specs.WellFormed.{PointAllowed, WellFormed}
-use Rattle.coordinator.proofs.Pointwise.{states-ext, length-states, initial-state}
-use Rattle.coordinator.proofs.Undecided.{none-undecided, not-any}
-use Rattle.coordinator.proofs.Counts.{speakers-le, data-sent-le, commits-sent-le}
+use Rattle.coordinator_laws.proofs.Pointwise.{states-ext, length-states, initial-state}
+use Rattle.coordinator_laws.proofs.Undecided.{none-undecided, not-any}
+use Rattle.coordinator_laws.proofs.Counts.{speakers-le, data-sent-le, commits-sent-le}
 use Rattle.tables.specs.declared.InstanceTable.{InstanceTable}
 use Rattle.tables.specs.declared.RunTable.{RunTable}
 use Rattle.tables.specs.InstanceOfTable.{faultFrom, instanceOf}
 use Rattle.tables.specs.RunOfTable.{stateByEnd, stateOver, statesOver, statesIn, runOver, runFrom}
 use Rattle.tables.proofs.Places.{processes-of, fault-at, state-over, length-states-over}
 use Rattle.coordinator_sending.proofs.Cases.{crashes-by-round}
-use Rattle.coordinator_run.specs.CrashSets.{CrashSets}
-use Rattle.coordinator_run.specs.InitialTable.{initialTable}
+use Rattle.coordinator_crashes.specs.CrashSets.{CrashSets}
+use Rattle.tables.specs.InitialTable.{initialTable}
 use Rattle.coordinator_round.specs.Round.{undecidedSet, RoundAllowed, RoundOf, RoundRun}
 use Rattle.coordinator_run.proofs.TableLimits.{limits, rounds-fit}
 

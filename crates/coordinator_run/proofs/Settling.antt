@@ -11,12 +11,12 @@ use Rattle.general.proofs.Tests.{by-equal, by-order}
 use Rattle.consensus.specs.Instance.{Instance}
 use Rattle.consensus.specs.State.{State}
 use Rattle.coordinator.specs.Run.{Run, runTo, runOf, lastRound}
-use Rattle.coordinator.specs.RunRounds.{RunRounds}
+use Rattle.coordinator_laws.specs.RunRounds.{RunRounds}
 use Rattle.coordinator.specs.Settling.{valuesHeld, oneValue, qualifies, firstSettling}
 use Rattle.coordinator.specs.WellFormed.{WellFormed}
-use Rattle.coordinator.proofs.Counts.{rounds-le}
-use Rattle.coordinator.proofs.RunRounds.{run-rounds}
-use Rattle.coordinator.proofs.FirstSettling.{unsettled-within, settles-first, first-settling}
+use Rattle.coordinator_laws.proofs.Counts.{rounds-le}
+use Rattle.coordinator_laws.proofs.RunRounds.{run-rounds}
+use Rattle.coordinator_laws.proofs.FirstSettling.{unsettled-within, settles-first, first-settling}
 use Rattle.tables.specs.declared.InstanceTable.{InstanceTable}
 use Rattle.tables.specs.declared.RunTable.{RunTable}
 use Rattle.tables.specs.InstanceOfTable.{instanceOf}

@@ -13,12 +13,12 @@ use Rattle.consensus.specs.Instance.{Instance}
 use Rattle.consensus.specs.State.{State, undecided}
 use Rattle.coordinator.specs.Count.{dataIn, commitsIn}
 use Rattle.coordinator.specs.Run.{Run, withRound, runTo}
-use Rattle.coordinator.specs.MessagesBySender.{sentAfter}
+use Rattle.coordinator.specs.SentBy.{sentAfter}
 use Rattle.coordinator.specs.WellFormed.{WellFormed}
-use Rattle.coordinator.proofs.Pointwise.{length-states}
-use Rattle.coordinator.proofs.Ended.{run-ended}
-use Rattle.coordinator.proofs.Carried.{data-in-le, commits-in-le}
-use Rattle.coordinator.proofs.MessagesBySender.{data-silent, commits-silent, sent-round, length-sent, count-sent, sent-ended}
+use Rattle.coordinator_laws.proofs.Pointwise.{length-states}
+use Rattle.coordinator_laws.proofs.Ended.{run-ended}
+use Rattle.coordinator_laws.proofs.Carried.{data-in-le, commits-in-le}
+use Rattle.coordinator_laws.proofs.MessagesBySender.{data-silent, commits-silent, sent-round, length-sent, count-sent, sent-ended}
 use Rattle.tables.specs.declared.InstanceTable.{InstanceTable}
 use Rattle.tables.specs.declared.RunTable.{RunTable}
 use Rattle.tables.specs.InstanceOfTable.{instanceOf}

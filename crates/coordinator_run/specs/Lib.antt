@@ -1,4 +1,1 @@
-pub mod CrashSets
-pub mod InitialTable
-pub mod CrashCountOver
 pub mod Running

@@ -8,7 +8,7 @@ use lib.ListN.{take, replicate}
 use Rattle.consensus.specs.Instance.{Instance}
 use Rattle.coordinator.specs.Count.{dataIn, commitsIn}
 use Rattle.coordinator.specs.Run.{runTo, lastRound}
-use Rattle.coordinator.specs.MessagesBySender.{sentAfter}
+use Rattle.coordinator.specs.SentBy.{sentAfter}
 use Rattle.coordinator.specs.Settling.{firstSettling}
 use Rattle.tables.specs.declared.RunTable.{RunTable}
 use Rattle.tables.specs.RunOfTable.{runFrom}

@@ -10,8 +10,8 @@ use Rattle.consensus.specs.State.{crashesIn}
 use Rattle.coordinator.specs.Message.{getsData, getsCommit}
 use Rattle.coordinator.specs.Delivery.{reach}
 use Rattle.coordinator.specs.WellFormed.{PointAllowed}
-use Rattle.coordinator.specs.CountsBySets.{aboveSet, dataSetAt, commitSetAt}
-use Rattle.coordinator.proofs.SentSets.{data-to-all, commits-to-all, data-at-crash, commits-at-crash}
+use Rattle.coordinator.specs.SentSets.{aboveSet, dataSetAt, commitSetAt}
+use Rattle.coordinator_laws.proofs.SentSets.{data-to-all, commits-to-all, data-at-crash, commits-at-crash}
 use Rattle.tables.specs.InstanceOfTable.{faultFrom}
 use Rattle.coordinator_sending.specs.declared.Sent.{Sent}
 use Rattle.coordinator_sending.specs.Sending.{SendingAllowed, sendingBy}

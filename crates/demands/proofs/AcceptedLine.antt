@@ -9,10 +9,10 @@ use lib.Dec.{eqb}
 use lib.ListN.{length, getD}
 use Rattle.general.proofs.Tests.{both}
 use Rattle.consensus.specs.Instance.{crashes, duringCommits}
-use Rattle.formats.specs.FailureLine.{faultBy}
-use Rattle.formats.specs.Says.{isKind, failureLine}
-use Rattle.formats.proofs.CrashAllowed.{commit-fault}
-use Rattle.formats.proofs.LineCases.{CrashPasses}
+use Rattle.ticket_format.specs.FailureLine.{faultBy}
+use Rattle.ticket_format.specs.Says.{isKind, failureLine}
+use Rattle.answers.proofs.CrashAllowed.{commit-fault}
+use Rattle.ticket_format.proofs.LineCases.{CrashPasses}
 use Rattle.demands.specs.PairedTexts.{CommitLine}
 
 -- It is of kind 03, and so of no other.

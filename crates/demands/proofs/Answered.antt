@@ -8,15 +8,15 @@ use borrow.Author.Tests.{ltb-true, ltb-false}
 use lib.Dec.{ltb}
 use lib.ListN.{length}
 use Rattle.consensus.specs.Instance.{Instance}
-use Rattle.formats.specs.Reading.{Reading, accepted, refused}
-use Rattle.formats.specs.Ticket.{readTicket}
-use Rattle.formats.specs.ResultLine.{resultText, resultSize}
-use Rattle.formats.specs.Running.{resultIn, running, bufferAfter}
-use Rattle.formats.specs.Code.{codeOf, refusalsFrom, RunCall}
-use Rattle.formats.proofs.WellFormed.{accepted-well-formed}
-use Rattle.formats.proofs.RefusalRange.{RefusedBy, lastRefused, ticket-refused}
-use Rattle.formats.proofs.ResultLength.{length-text}
-use Rattle.formats.proofs.FirstWrong.{refused-wrong}
+use Rattle.ticket_format.specs.Reading.{Reading, accepted, refused}
+use Rattle.ticket_format.specs.Ticket.{readTicket}
+use Rattle.answers.specs.ResultLine.{resultText, resultSize}
+use Rattle.answers.specs.Running.{resultIn, running, bufferAfter}
+use Rattle.answers.specs.Code.{codeOf, refusalsFrom, RunCall}
+use Rattle.answers.proofs.WellFormed.{accepted-well-formed}
+use Rattle.ticket_format.proofs.RefusalRange.{RefusedBy, lastRefused, ticket-refused}
+use Rattle.answers.proofs.ResultLength.{length-text}
+use Rattle.ticket_format.proofs.FirstWrong.{refused-wrong}
 use Rattle.demands.specs.Demand1.{wrong, tooShort, RunAnswered, result, refusal}
 
 -- The three answers of running.

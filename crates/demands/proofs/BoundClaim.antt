@@ -4,9 +4,9 @@ use mathlib.Core.Option.{some}
 use mathlib.Core.Path.{_≡_}
 use Prim.Native.Nat.{ℕ}
 use Rattle.consensus.specs.Instance.{Instance}
-use Rattle.coordinator.proofs.Bound.{speaker-bound}
-use Rattle.coordinator.proofs.CountsBySets.{counts-by-sets}
-use Rattle.formats.proofs.WellFormed.{accepted-well-formed}
+use Rattle.coordinator_laws.proofs.Bound.{speaker-bound}
+use Rattle.coordinator_laws.proofs.CountsBySets.{counts-by-sets}
+use Rattle.answers.proofs.WellFormed.{accepted-well-formed}
 use Rattle.demands.specs.OutputSays.{Counts, countsSaid, countsOf}
 use Rattle.demands.specs.Written.{Wrote}
 use Rattle.demands.specs.BoundClaim.{CountsBounded, BoundClaim}

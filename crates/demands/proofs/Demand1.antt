@@ -9,24 +9,24 @@ use Rattle.general.specs.BigEndian.{bytesOf}
 use Rattle.general.proofs.Bytes.{Bytes, bytes-each, bytes-append}
 use Rattle.general.proofs.BigEndian.{bytes-of-number, number-bytes}
 use Rattle.consensus.specs.Instance.{Instance}
-use Rattle.formats.specs.FirstWrong.{FirstWrong}
-use Rattle.formats.specs.Ticket.{readTicket}
-use Rattle.formats.specs.Line.{Line, noLine, linesOf}
-use Rattle.formats.specs.Says.{isKind}
-use Rattle.formats.specs.HexText.{hexLine}
-use Rattle.formats.specs.ResultLine.{refusalLine}
-use Rattle.formats.specs.Running.{resultIn, running, written, programWrites}
-use Rattle.formats.proofs.LineReadBack.{line-read-back}
-use Rattle.formats.proofs.RefusalRange.{RefusedBy, lastRefused, ticket-refused}
+use Rattle.ticket_format.specs.FirstWrong.{FirstWrong}
+use Rattle.ticket_format.specs.Ticket.{readTicket}
+use Rattle.text.specs.Line.{Line, noLine, linesOf}
+use Rattle.ticket_format.specs.Says.{isKind}
+use Rattle.text.specs.HexText.{hexLine}
+use Rattle.answers.specs.ResultLine.{refusalLine}
+use Rattle.answers.specs.Running.{resultIn, running, written, programWrites}
+use Rattle.text.proofs.LineReadBack.{line-read-back}
+use Rattle.ticket_format.proofs.RefusalRange.{RefusedBy, lastRefused, ticket-refused}
 use Rattle.demands.specs.OutputSays.{lineAt, refusalFrom, refusalSaid}
-use Rattle.formats.specs.Reading.{Reading, accepted, refused}
-use Rattle.coordinator.proofs.Counts.{counts-fit}
-use Rattle.coordinator.proofs.FirstSettling.{first-settling}
-use Rattle.formats.specs.Settle.{settlingIn, settling}
-use Rattle.formats.specs.Code.{codeOf, numberCode}
-use Rattle.formats.proofs.WellFormed.{accepted-well-formed}
-use Rattle.formats.proofs.Passing.{refused-accepted}
-use Rattle.formats.proofs.FirstWrong.{wrong-refused, refused-wrong}
+use Rattle.ticket_format.specs.Reading.{Reading, accepted, refused}
+use Rattle.coordinator_laws.proofs.Counts.{counts-fit}
+use Rattle.coordinator_laws.proofs.FirstSettling.{first-settling}
+use Rattle.answers.specs.Settle.{settlingIn, settling}
+use Rattle.answers.specs.Code.{codeOf, numberCode}
+use Rattle.answers.proofs.WellFormed.{accepted-well-formed}
+use Rattle.ticket_format.proofs.Passing.{refused-accepted}
+use Rattle.ticket_format.proofs.FirstWrong.{wrong-refused, refused-wrong}
 use Rattle.part_format.proofs.Refused.{refused-change-nothing, speak-answers-apart}
 use Rattle.demands.specs.Demand1.{SettleAnswered, round, refusal, TicketsAnswered, Demand1}
 use Rattle.demands.proofs.Answered.{unread-numbered, run-answered}

@@ -7,12 +7,12 @@ use Rattle.consensus.specs.State.{State}
 use Rattle.coordinator.specs.Run.{crashesOf, endOf, latestOf}
 use Rattle.consensus.specs.Consensus.{UniformConsensus, CountsCrashes}
 use Rattle.consensus.specs.CrashCount.{crashCount, crashedCount}
-use Rattle.coordinator.proofs.CrashCount.{crashes-are-crashed}
-use Rattle.coordinator.proofs.Consensus.{uniform-consensus}
-use Rattle.coordinator.proofs.Pair.{no-later}
+use Rattle.coordinator_laws.proofs.CrashCount.{crashes-are-crashed}
+use Rattle.coordinator_laws.proofs.Consensus.{uniform-consensus}
+use Rattle.coordinator_laws.proofs.Pair.{no-later}
 use Rattle.consensus.proofs.SameEnds.{SameEnds, consensus-same, no-later-same}
-use Rattle.coordinator.proofs.Ends.{ends-in-order}
-use Rattle.formats.proofs.WellFormed.{accepted-well-formed}
+use Rattle.coordinator_laws.proofs.Ends.{ends-in-order}
+use Rattle.answers.proofs.WellFormed.{accepted-well-formed}
 use Rattle.demands.specs.OutputSays.{Counts, OutputSays, countsOf}
 use Rattle.demands.specs.Written.{Wrote}
 use Rattle.demands.specs.Demand3.{RoundsClaim, InstancesClaim, OutputClaim, Demand3}

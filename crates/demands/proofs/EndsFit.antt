@@ -12,14 +12,15 @@ use Rattle.coordinator.specs.WellFormed.{WellFormed, FaultAllowed}
 use Rattle.coordinator.specs.Run.{runOf, crashesOf, endOf, latestOf}
 use Rattle.consensus.specs.Consensus.{IsProcess, Decides, Validity, DecidesBy, CrashesNoOther, UniformConsensus}
 use Rattle.coordinator.specs.Count.{dataIn, commitsIn}
-use Rattle.coordinator.specs.MessagesBySender.{dataBy, commitsBy, BySender}
-use Rattle.coordinator.proofs.MessagesBySender.{messages-by-sender}
-use Rattle.coordinator.proofs.CrashCount.{crashes-le}
-use Rattle.coordinator.proofs.Counts.{counts-fit}
-use Rattle.coordinator.proofs.Ends.{states-at-end}
-use Rattle.coordinator.proofs.Consensus.{uniform-consensus}
-use Rattle.coordinator.proofs.Settled.{none-ends-undecided}
-use Rattle.formats.specs.ResultLine.{resultText}
+use Rattle.coordinator.specs.SentBy.{dataBy, commitsBy}
+use Rattle.coordinator_laws.specs.MessagesBySender.{BySender}
+use Rattle.coordinator_laws.proofs.MessagesBySender.{messages-by-sender}
+use Rattle.coordinator_laws.proofs.CrashCount.{crashes-le}
+use Rattle.coordinator_laws.proofs.Counts.{counts-fit}
+use Rattle.coordinator_laws.proofs.Ends.{states-at-end}
+use Rattle.coordinator_laws.proofs.Consensus.{uniform-consensus}
+use Rattle.coordinator_laws.proofs.Settled.{none-ends-undecided}
+use Rattle.answers.specs.ResultLine.{resultText}
 use Rattle.demands.specs.OutputSays.{OutputSays, countsOf, sentSaid, sentOf}
 use Rattle.demands.proofs.ResultReadBack.{Fits, RunFits, end-said, sent-said, counts-said}
 

@@ -1,6 +1,6 @@
 -- Idle failure lines of every accepted text change nothing. Assumes nothing.
-use Rattle.coordinator.proofs.IdleLines.{idle-lines-change-nothing}
-use Rattle.formats.proofs.WellFormed.{accepted-well-formed}
+use Rattle.coordinator_laws.proofs.IdleLines.{idle-lines-change-nothing}
+use Rattle.answers.proofs.WellFormed.{accepted-well-formed}
 use Rattle.demands.specs.IdleClaim.{IdleClaim}
 
 pub idle-claim : IdleClaim

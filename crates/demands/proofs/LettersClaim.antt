@@ -6,19 +6,19 @@ use native.Mathlib.Omega.{arith}
 use lib.ListN.{length, take}
 use lib.Seq.{take-append-seam}
 use Rattle.consensus.specs.Instance.{Instance}
-use Rattle.formats.specs.Capitals.{EqualUpToCase, InCapitals}
-use Rattle.formats.specs.Reading.{Reading, accepted, refused}
-use Rattle.formats.specs.Ticket.{readTicket}
-use Rattle.formats.specs.ResultLine.{resultText, resultSize}
-use Rattle.formats.specs.Running.{running, bufferAfter, written, programWrites}
-use Rattle.formats.specs.Settle.{settling}
-use Rattle.formats.specs.Reason.{reason, reasons}
-use Rattle.formats.specs.Code.{sizeCode, numberCode, WritingCall}
-use Rattle.formats.proofs.Capitals.{read-capitals, read-alike}
-use Rattle.formats.proofs.InCapitals.{refusal-in-capitals}
-use Rattle.formats.proofs.WellFormed.{accepted-well-formed}
-use Rattle.formats.proofs.ResultLength.{length-text}
-use Rattle.formats.proofs.RefusalRange.{RefusedBy, lastRefused, ticket-refused}
+use Rattle.text.specs.Capitals.{EqualUpToCase, InCapitals}
+use Rattle.ticket_format.specs.Reading.{Reading, accepted, refused}
+use Rattle.ticket_format.specs.Ticket.{readTicket}
+use Rattle.answers.specs.ResultLine.{resultText, resultSize}
+use Rattle.answers.specs.Running.{running, bufferAfter, written, programWrites}
+use Rattle.answers.specs.Settle.{settling}
+use Rattle.answers.specs.Reason.{reason, reasons}
+use Rattle.answers.specs.Code.{sizeCode, numberCode, WritingCall}
+use Rattle.ticket_format.proofs.ReadCapitals.{read-capitals, read-alike}
+use Rattle.answers.proofs.InCapitals.{refusal-in-capitals}
+use Rattle.answers.proofs.WellFormed.{accepted-well-formed}
+use Rattle.answers.proofs.ResultLength.{length-text}
+use Rattle.ticket_format.proofs.RefusalRange.{RefusedBy, lastRefused, ticket-refused}
 use Rattle.running.specs.Answer.{answerOf, Writing}
 use Rattle.running.specs.declared.RunAnswer.{RunAnswer}
 use Rattle.reasons.specs.Answer.{reasonOfAnswer}

@@ -6,11 +6,11 @@ use lib.ListN.{length, length-set}
 use lib.Seq.{getD-set-same, getD-set-other}
 use Rattle.general.proofs.Tests.{by-equal}
 use Rattle.consensus.specs.Instance.{Instance, correct, faultOf}
-use Rattle.coordinator.specs.Pairing.{LinePaired, Paired}
-use Rattle.formats.specs.declared.FailureLine.{FailureLine}
-use Rattle.formats.specs.FailureLine.{faultBy}
-use Rattle.formats.specs.Accept.{withCrash}
-use Rattle.formats.proofs.CrashAllowed.{Placed}
+use Rattle.coordinator_laws.specs.Pairing.{LinePaired, Paired}
+use Rattle.ticket_format.specs.declared.FailureLine.{FailureLine}
+use Rattle.ticket_format.specs.FailureLine.{faultBy}
+use Rattle.ticket_format.specs.Accept.{withCrash}
+use Rattle.ticket_format.proofs.CrashPlaced.{Placed}
 
 -- The fault of a line's process, and of any other, in the instance with that line.
 module _ (x : Instance) (l : FailureLine) (positive : 1 ≤ l .process) (inside : l .process ≤ length (x .pattern)) where

@@ -10,18 +10,18 @@ use lib.ListN.{length, getD, replicate, length-replicate}
 use Rattle.general.proofs.Tests.{both}
 use Rattle.general.proofs.Lists.{getD-repeated}
 use Rattle.consensus.specs.Instance.{Instance, correct, faultOf}
-use Rattle.coordinator.specs.Pairing.{same, moreCommits, missing, Paired}
-use Rattle.formats.specs.Line.{Line, bytes, noLine}
-use Rattle.formats.specs.LineVerdict.{next}
-use Rattle.formats.specs.Reading.{Reading, accepted, refused, readFrom}
-use Rattle.formats.specs.Says.{isKind, afterProposal, failureLine, lineSays}
-use Rattle.formats.specs.Accept.{Stage, header, body, unproposed, withProposal, store, accept}
-use Rattle.formats.specs.declared.Place.the-variants.{Proposals, Failures, Ended}
-use Rattle.formats.specs.Ticket.{ticketLimit, atEnd, readTicket}
-use Rattle.formats.proofs.CrashAllowed.{Placed, crash-placed}
-use Rattle.formats.proofs.Passing.{refused-accepted, refuse-next, proceeds}
-use Rattle.formats.proofs.LineCases.{CrashPasses}
-use Rattle.formats.proofs.Taken.{HeaderTaken, takenHeader, header-taken, Taken, takenProposal, takenCrash, takenEnd, taken}
+use Rattle.coordinator_laws.specs.Pairing.{same, moreCommits, missing, Paired}
+use Rattle.text.specs.Line.{Line, bytes, noLine}
+use Rattle.ticket_format.specs.LineVerdict.{next}
+use Rattle.ticket_format.specs.Reading.{Reading, accepted, refused, readFrom}
+use Rattle.ticket_format.specs.Says.{isKind, afterProposal, failureLine, lineSays}
+use Rattle.ticket_format.specs.Accept.{Stage, header, body, unproposed, withProposal, store, accept}
+use Rattle.ticket_format.specs.declared.Place.the-variants.{Proposals, Failures, Ended}
+use Rattle.ticket_format.specs.Ticket.{ticketLimit, atEnd, readTicket}
+use Rattle.ticket_format.proofs.CrashPlaced.{Placed, crash-placed}
+use Rattle.ticket_format.proofs.Passing.{refused-accepted, refuse-next, proceeds}
+use Rattle.ticket_format.proofs.LineCases.{CrashPasses}
+use Rattle.ticket_format.proofs.Taken.{HeaderTaken, takenHeader, header-taken, Taken, takenProposal, takenCrash, takenEnd, taken}
 use Rattle.demands.specs.PairedTexts.{CommitLine, PairedLines, noLines, sameLine, countNoLower, missingLine, PairedTexts}
 use Rattle.demands.proofs.AcceptedLine.{not-a-header, not-a-proposal, not-the-end, stated-fault}
 use Rattle.demands.proofs.PairedFaults.{PairedSoFar, so-far-paired, so-far-both, so-far-first}

@@ -11,7 +11,7 @@ use Rattle.general.specs.BigEndian.{number}
 use Rattle.general.proofs.Bytes.{drop-bytes}
 use Rattle.general.proofs.BigEndian.{number-below}
 use Rattle.consensus.specs.State.{decided}
-use Rattle.formats.specs.Reading.{Reading, accepted, refused}
+use Rattle.ticket_format.specs.Reading.{Reading, accepted, refused}
 use Rattle.pricing.specs.Price.{priceOf}
 use Rattle.pricing.specs.Quote.{linesRefusal, quoteBy}
 use Rattle.pricing.specs.PricedLines.{Priced, Unpriced}

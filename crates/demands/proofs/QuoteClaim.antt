@@ -14,13 +14,13 @@ use Rattle.consensus.specs.Consensus.{IsProcess, Decides, Validity, CrashesNoOt
 use Rattle.coordinator.specs.Run.{lastRound, endOf, latestOf}
 use Rattle.coordinator.specs.WellFormed.{WellFormed}
 use Rattle.consensus.proofs.SameEnds.{SameEnds}
-use Rattle.coordinator.proofs.Consensus.{uniform-consensus}
-use Rattle.coordinator.proofs.Settled.{none-ends-undecided}
-use Rattle.formats.specs.Reading.{Reading, accepted, refused}
-use Rattle.formats.specs.Ticket.{readTicket}
-use Rattle.formats.specs.Code.{codeOf}
-use Rattle.formats.proofs.WellFormed.{accepted-well-formed}
-use Rattle.formats.proofs.FirstWrong.{refused-wrong}
+use Rattle.coordinator_laws.proofs.Consensus.{uniform-consensus}
+use Rattle.coordinator_laws.proofs.Settled.{none-ends-undecided}
+use Rattle.ticket_format.specs.Reading.{Reading, accepted, refused}
+use Rattle.ticket_format.specs.Ticket.{readTicket}
+use Rattle.answers.specs.Code.{codeOf}
+use Rattle.answers.proofs.WellFormed.{accepted-well-formed}
+use Rattle.ticket_format.proofs.FirstWrong.{refused-wrong}
 use Rattle.pricing.specs.Price.{priceOf}
 use Rattle.pricing.specs.Quote.{linesRefusal, quoteBy}
 use Rattle.pricing.specs.PricedLines.{Priced, Unpriced}

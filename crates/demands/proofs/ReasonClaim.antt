@@ -12,17 +12,17 @@ use Rattle.consensus.specs.Instance.{Instance}
 use Rattle.consensus.specs.Consensus.{IsProcess}
 use Rattle.coordinator.specs.Run.{runOf}
 use Rattle.coordinator.specs.Reason.{reasonOf, reasonsOf}
-use Rattle.coordinator.specs.TrueReasons.{IsRound}
-use Rattle.coordinator.proofs.TrueReasons.{reason-within, reasons-true}
-use Rattle.coordinator.proofs.ReasonsByEnds.{reasons-by-ends}
-use Rattle.formats.specs.Reading.{Reading, accepted, refused}
-use Rattle.formats.specs.Ticket.{readTicket}
-use Rattle.formats.specs.Running.{bufferAfter}
-use Rattle.formats.specs.Reason.{withinRun, reasonIn, reason, reasonsSize, reasonsWithin, reasons}
-use Rattle.formats.specs.Code.{codeOf, refusalsFrom, sizeCode, numberCode, ReasonsCall}
-use Rattle.formats.proofs.WellFormed.{accepted-well-formed}
-use Rattle.formats.proofs.ReasonsLength.{length-reasons, reasons-fit, reason-at, reason-inside}
-use Rattle.formats.proofs.FirstWrong.{refused-wrong}
+use Rattle.coordinator_laws.specs.TrueReasons.{IsRound}
+use Rattle.coordinator_laws.proofs.TrueReasons.{reason-within, reasons-true}
+use Rattle.coordinator_laws.proofs.ReasonsByEnds.{reasons-by-ends}
+use Rattle.ticket_format.specs.Reading.{Reading, accepted, refused}
+use Rattle.ticket_format.specs.Ticket.{readTicket}
+use Rattle.answers.specs.Running.{bufferAfter}
+use Rattle.answers.specs.Reason.{withinRun, reasonIn, reason, reasonsSize, reasonsWithin, reasons}
+use Rattle.answers.specs.Code.{codeOf, refusalsFrom, sizeCode, numberCode, ReasonsCall}
+use Rattle.answers.proofs.WellFormed.{accepted-well-formed}
+use Rattle.answers.proofs.ReasonsLength.{length-reasons, reasons-fit, reason-at, reason-inside}
+use Rattle.ticket_format.proofs.FirstWrong.{refused-wrong}
 use Rattle.running.specs.Answer.{answerOf}
 use Rattle.running.specs.declared.RunAnswer.the-variants.{Written}
 use Rattle.reasons.specs.Answer.{reasonOfAnswer, Explained}

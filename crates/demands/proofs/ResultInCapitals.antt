@@ -8,12 +8,12 @@ use Rattle.general.specs.Indexed.{mapFrom}
 use Rattle.consensus.specs.Instance.{Instance}
 use Rattle.consensus.specs.State.{State, crashed}
 use Rattle.coordinator.specs.Run.{Run, runOf, crashesOf}
-use Rattle.formats.specs.Capitals.{InCapitals}
-use Rattle.formats.specs.Reading.{accepted}
-use Rattle.formats.specs.Ticket.{readTicket}
-use Rattle.formats.specs.ResultLine.{processLine, lastLine, joined, lineBy, processLines, resultLines, resultText}
-use Rattle.formats.proofs.InCapitals.{capitals-append, line-in-capitals}
-use Rattle.formats.proofs.WellFormed.{accepted-well-formed}
+use Rattle.text.specs.Capitals.{InCapitals}
+use Rattle.ticket_format.specs.Reading.{accepted}
+use Rattle.ticket_format.specs.Ticket.{readTicket}
+use Rattle.answers.specs.ResultLine.{processLine, lastLine, joined, lineBy, processLines, resultLines, resultText}
+use Rattle.answers.proofs.InCapitals.{capitals-append, line-in-capitals}
+use Rattle.answers.proofs.WellFormed.{accepted-well-formed}
 use Rattle.demands.proofs.ResultReadBack.{Fits, AllFit, RunFits, lineBytes, process-line-bytes, lastBytes, last-line-bytes}
 use Rattle.demands.proofs.EndsFit.{run-fits}
 

@@ -15,11 +15,11 @@ use Rattle.general.proofs.BigEndian.{bytes-of-number, number-bytes}
 use Rattle.general.proofs.Indexed.{length-mapFrom, mapFrom-at}
 use Rattle.consensus.specs.State.{State, undecided, decided, crashed, stateOf}
 use Rattle.coordinator.specs.Run.{Run}
-use Rattle.formats.specs.Line.{Line, bytes, noLine, linesOf}
-use Rattle.formats.specs.Says.{isKind}
-use Rattle.formats.specs.ResultLine.{endBytes, processLine, lastLine, joined, lineBy, processLines, resultLines}
+use Rattle.text.specs.Line.{Line, bytes, noLine, linesOf}
+use Rattle.ticket_format.specs.Says.{isKind}
+use Rattle.answers.specs.ResultLine.{endBytes, processLine, lastLine, joined, lineBy, processLines, resultLines}
 use Rattle.demands.specs.OutputSays.{isProcessLine, endIn, endFrom, sentIn, sentFrom, countsIn, countsFrom, lineAt, endSaid, sentSaid, countsSaid}
-use Rattle.formats.proofs.LineReadBack.{line-read-back}
+use Rattle.text.proofs.LineReadBack.{line-read-back}
 
 -- A process that ended so can be read back: it has decided or crashed, in a round of one byte, on a value of four.
 unfoldable pub Fits : State → Type 0

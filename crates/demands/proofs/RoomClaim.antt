@@ -5,14 +5,14 @@ use Prim.Native.Nat.{ℕ, _≤_, _<_}
 use borrow.Author.Tests.{lt-ltb, le-ltb}
 use lib.ListN.{length}
 use Rattle.consensus.specs.Instance.{Instance}
-use Rattle.formats.specs.Reading.{accepted, refused}
-use Rattle.formats.specs.Ticket.{readTicket}
-use Rattle.formats.specs.ResultLine.{resultText, resultSize}
-use Rattle.formats.specs.Running.{resultIn, running, bufferAfter}
-use Rattle.formats.specs.Code.{codeOf, refusalCode, RunCall}
-use Rattle.formats.proofs.AnswerCases.{result-sizes}
-use Rattle.formats.proofs.ResultLength.{length-text}
-use Rattle.formats.proofs.WellFormed.{accepted-well-formed}
+use Rattle.ticket_format.specs.Reading.{accepted, refused}
+use Rattle.ticket_format.specs.Ticket.{readTicket}
+use Rattle.answers.specs.ResultLine.{resultText, resultSize}
+use Rattle.answers.specs.Running.{resultIn, running, bufferAfter}
+use Rattle.answers.specs.Code.{codeOf, refusalCode, RunCall}
+use Rattle.answers.proofs.AnswerCases.{result-sizes}
+use Rattle.answers.proofs.ResultLength.{length-text}
+use Rattle.answers.proofs.WellFormed.{accepted-well-formed}
 use Rattle.running.specs.Answer.{answerOf, Ran}
 use Rattle.running.specs.declared.RunAnswer.{RunAnswer}
 use Rattle.running.specs.declared.RunAnswer.the-variants.{Written, Refused}

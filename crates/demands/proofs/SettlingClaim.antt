@@ -7,13 +7,13 @@ use native.Mathlib.Omega.{arith}
 use Rattle.general.proofs.Tests.{by-order}
 use Rattle.consensus.specs.Instance.{Instance}
 use Rattle.coordinator.specs.Settling.{firstSettling}
-use Rattle.coordinator.specs.FirstSettling.{FirstSettles, SettledSince}
-use Rattle.coordinator.proofs.FirstSettling.{first-settling, settled-since}
-use Rattle.formats.specs.Reading.{accepted}
-use Rattle.formats.specs.Ticket.{readTicket}
-use Rattle.formats.specs.Settle.{settlingIn, settling}
-use Rattle.formats.specs.Code.{codeOf, numberCode}
-use Rattle.formats.proofs.WellFormed.{accepted-well-formed}
+use Rattle.coordinator_laws.specs.FirstSettling.{FirstSettles, SettledSince}
+use Rattle.coordinator_laws.proofs.FirstSettling.{first-settling, settled-since}
+use Rattle.ticket_format.specs.Reading.{accepted}
+use Rattle.ticket_format.specs.Ticket.{readTicket}
+use Rattle.answers.specs.Settle.{settlingIn, settling}
+use Rattle.answers.specs.Code.{codeOf, numberCode}
+use Rattle.answers.proofs.WellFormed.{accepted-well-formed}
 use Rattle.running.specs.Settling.{settlingOf}
 use Rattle.running.specs.declared.SettleAnswer.{SettleAnswer}
 use Rattle.running.specs.declared.SettleAnswer.the-variants.{Round}

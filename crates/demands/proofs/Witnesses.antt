@@ -16,7 +16,7 @@ use Rattle.general.specs.Text.{ascii}
 use Rattle.consensus.specs.Instance.{Instance, Fault, correct, crashes, beforeSending, duringCommits, pointFrom, faultOf, withinLimits}
 use Rattle.consensus.specs.Consensus.{IsProcess, Decides}
 use Rattle.consensus.specs.FourProcesses.{four, firstCrashes, afterOneCommit, dataToTheLast}
-use Rattle.coordinator.specs.Pairing.{LinePaired, same, moreCommits, missing, Paired}
+use Rattle.coordinator_laws.specs.Pairing.{LinePaired, same, moreCommits, missing, Paired}
 use Rattle.coordinator.specs.Message.{arriving, getsData, getsCommit}
 use Rattle.coordinator.specs.Transition.{sends, receives}
 use Rattle.coordinator.specs.Delivery.{amongFirst, reachAt, reachIn, reach}
@@ -28,24 +28,26 @@ use Rattle.consensus.specs.CrashCount.{isIdle, countsAsCrash, crashCount}
 use Rattle.coordinator.specs.Run.{initial, withRound, runTo, runOf, crashesOf, endOf}
 use Rattle.coordinator.specs.Settling.{valuesHeld, allAre, oneValue, qualifies, firstSettling}
 use Rattle.coordinator.specs.Reason.{stateAtStart, stateAtEnd, heardIn, reasonHearing, reasonFrom, reasonOf, reasonsIn, reasonsTo, reasonsOf}
-use Rattle.coordinator.specs.TrueReasons.{IsRound, StaysUp, endRound}
-use Rattle.coordinator.proofs.History.{undecided-crashed}
-use Rattle.coordinator.specs.MessagesBySender.{sentAfter, dataBy, commitsBy}
-use Rattle.formats.specs.Digit.{digitValue, isDigit}
-use Rattle.formats.specs.Line.{scan, closed, unclosed, linesFrom, linesOf}
-use Rattle.formats.specs.FailureLine.{placesCrash, allBetween, suitsStep}
-use Rattle.formats.specs.Says.{isKind, headerSays, afterProposal, proposalSays, failureLine, crashSays, failureSays, lineSays}
-use Rattle.formats.specs.Accept.{unproposed, withProposal, withCrash, begin, store, accept}
-use Rattle.formats.specs.Reading.{accepted, refused, proceed, readFrom}
-use Rattle.formats.specs.Ticket.{atEnd, readTicket}
-use Rattle.formats.specs.HexText.{digitOf, hexDigits, hexLine}
-use Rattle.formats.specs.ResultLine.{endBytes, processLine, lastLine, joined, lineBy, processLines, resultLines, resultText, resultSize}
-use Rattle.formats.specs.Running.{resultIn, running, bufferAfter}
-use Rattle.formats.specs.Settle.{settlingIn, settling}
-use Rattle.formats.specs.Reason.{withinRun, reasonIn, reason, reasonsSize, reasonsWithin, reasons}
-use Rattle.formats.specs.Code.{codeOf, refusalCode, RunCall}
-use Rattle.formats.specs.Table.{textOf, opening, case1}
-use Rattle.formats.proofs.LetteringCases.{lettering-cases}
+use Rattle.coordinator_laws.specs.TrueReasons.{IsRound, StaysUp, endRound}
+use Rattle.coordinator_laws.proofs.History.{undecided-crashed}
+use Rattle.coordinator.specs.SentBy.{sentAfter, dataBy, commitsBy}
+use Rattle.text.specs.Digit.{digitValue, isDigit}
+use Rattle.text.specs.Line.{scan, closed, unclosed, linesFrom, linesOf}
+use Rattle.ticket_format.specs.FailureLine.{placesCrash, allBetween, suitsStep}
+use Rattle.ticket_format.specs.Says.{isKind, headerSays, afterProposal, proposalSays, failureLine, crashSays, failureSays, lineSays}
+use Rattle.ticket_format.specs.Accept.{unproposed, withProposal, withCrash, begin, store, accept}
+use Rattle.ticket_format.specs.Reading.{accepted, refused, proceed, readFrom}
+use Rattle.ticket_format.specs.Ticket.{atEnd, readTicket}
+use Rattle.text.specs.HexText.{digitOf, hexDigits, hexLine}
+use Rattle.answers.specs.ResultLine.{endBytes, processLine, lastLine, joined, lineBy, processLines, resultLines, resultText, resultSize}
+use Rattle.answers.specs.Running.{resultIn, running, bufferAfter}
+use Rattle.answers.specs.Settle.{settlingIn, settling}
+use Rattle.answers.specs.Reason.{withinRun, reasonIn, reason, reasonsSize, reasonsWithin, reasons}
+use Rattle.answers.specs.Code.{codeOf, refusalCode, RunCall}
+use Rattle.text.specs.TextOf.{textOf}
+use Rattle.ticket_format.specs.Openings.{opening}
+use Rattle.answers.specs.Table.{case1}
+use Rattle.answers.proofs.LetteringCases.{lettering-cases}
 use Rattle.running.specs.Answer.{answerOf}
 use Rattle.running.specs.Settling.{settlingOf}
 use Rattle.reasons.specs.Answer.{reasonOfAnswer}

@@ -5,13 +5,13 @@ use Prim.Native.Nat.{ℕ, _≤_, _<_}
 use native.Mathlib.Omega.{arith}
 use lib.ListN.{length, drop}
 use Rattle.consensus.specs.Instance.{Instance}
-use Rattle.formats.specs.Reading.{Reading, accepted, refused}
-use Rattle.formats.specs.Ticket.{readTicket}
-use Rattle.formats.specs.ResultLine.{resultText, resultSize}
-use Rattle.formats.specs.Running.{running, bufferAfter, written, programWrites}
-use Rattle.formats.specs.Code.{refusalsFrom}
-use Rattle.formats.proofs.WellFormed.{accepted-well-formed}
-use Rattle.formats.proofs.Passing.{refused-accepted}
+use Rattle.ticket_format.specs.Reading.{Reading, accepted, refused}
+use Rattle.ticket_format.specs.Ticket.{readTicket}
+use Rattle.answers.specs.ResultLine.{resultText, resultSize}
+use Rattle.answers.specs.Running.{running, bufferAfter, written, programWrites}
+use Rattle.answers.specs.Code.{refusalsFrom}
+use Rattle.answers.proofs.WellFormed.{accepted-well-formed}
+use Rattle.ticket_format.proofs.Passing.{refused-accepted}
 use Rattle.running.specs.Answer.{answerOf, Ran}
 use Rattle.running.specs.declared.RunAnswer.the-variants.{Written, Refused}
 use Rattle.demands.specs.Demand1.{RunAnswered, result, refusal}

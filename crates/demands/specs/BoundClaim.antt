@@ -5,10 +5,11 @@ use mathlib.Core.Option.{some}
 use mathlib.Core.Path.{_≡_}
 use Prim.Native.Nat.{ℕ, suc, _+_, _≤_}
 use Rattle.consensus.specs.Instance.{Instance}
-use Rattle.coordinator.specs.SpeakerBound.{SpeakerBound, boundBySpeakers, commitsBySpeakers}
-use Rattle.coordinator.specs.CountsBySets.{CountsBySets}
-use Rattle.formats.specs.Reading.{accepted}
-use Rattle.formats.specs.Ticket.{readTicket}
+use Rattle.coordinator.specs.SpeakerLimits.{boundBySpeakers, commitsBySpeakers}
+use Rattle.coordinator_laws.specs.SpeakerBound.{SpeakerBound}
+use Rattle.coordinator_laws.specs.CountsBySets.{CountsBySets}
+use Rattle.ticket_format.specs.Reading.{accepted}
+use Rattle.ticket_format.specs.Ticket.{readTicket}
 use Rattle.demands.specs.OutputSays.{Counts, countsSaid}
 use Rattle.demands.specs.Written.{Wrote}
 

@@ -7,15 +7,15 @@ use Prim.Native.Nat.{ℕ, _≤_, _<_}
 use lib.ListN.{length, drop}
 use Rattle.consensus.specs.Instance.{Instance}
 use Rattle.coordinator.specs.Settling.{firstSettling}
-use Rattle.formats.specs.Reading.{accepted}
-use Rattle.formats.specs.Ticket.{readTicket}
-use Rattle.formats.specs.FirstWrong.{FirstWrong}
-use Rattle.formats.specs.ResultLine.{resultText, resultSize, refusalLine}
-use Rattle.formats.specs.Running.{programWrites}
-use Rattle.formats.specs.Settle.{settling}
+use Rattle.ticket_format.specs.Reading.{accepted}
+use Rattle.ticket_format.specs.Ticket.{readTicket}
+use Rattle.ticket_format.specs.FirstWrong.{FirstWrong}
+use Rattle.answers.specs.ResultLine.{resultText, resultSize, refusalLine}
+use Rattle.answers.specs.Running.{programWrites}
+use Rattle.answers.specs.Settle.{settling}
 use Rattle.demands.specs.OutputSays.{refusalSaid}
 use Rattle.part_format.specs.Refused.{RefusedCallsChangeNothing, SpeakAnswersApart}
-use Rattle.formats.specs.Code.{refusalsFrom, refusalCode, RunCall, numberCode}
+use Rattle.answers.specs.Code.{refusalsFrom, refusalCode, RunCall, numberCode}
 
 -- Running a text into a buffer of `room` bytes is refused with this number and line: for its first wrong line, or, with 9 and no line, for want of room.
 pub data RunRefused (text : List ℕ) (room : ℕ) : (refusal line : ℕ) → Type 0 where

@@ -9,9 +9,9 @@ use Rattle.consensus.specs.State.{State}
 use Rattle.coordinator.specs.Run.{crashesOf, endOf, latestOf}
 use Rattle.consensus.specs.CrashCount.{crashedCount}
 use Rattle.consensus.specs.Consensus.{UniformConsensus, CountsCrashes, NoLater, endsOf}
-use Rattle.coordinator.specs.Pairing.{Paired}
-use Rattle.formats.specs.Reading.{accepted}
-use Rattle.formats.specs.Ticket.{readTicket}
+use Rattle.coordinator_laws.specs.Pairing.{Paired}
+use Rattle.ticket_format.specs.Reading.{accepted}
+use Rattle.ticket_format.specs.Ticket.{readTicket}
 use Rattle.demands.specs.OutputSays.{Counts, OutputSays}
 use Rattle.demands.specs.Written.{Wrote}
 use Rattle.demands.specs.PairedTexts.{PairedTexts}

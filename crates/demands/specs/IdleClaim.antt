@@ -4,9 +4,9 @@ use mathlib.Core.List.{List}
 use mathlib.Core.Path.{_≡_}
 use Prim.Native.Nat.{ℕ}
 use Rattle.consensus.specs.Instance.{Instance}
-use Rattle.coordinator.specs.IdleLines.{IdleLinesChangeNothing}
-use Rattle.formats.specs.Reading.{accepted}
-use Rattle.formats.specs.Ticket.{readTicket}
+use Rattle.coordinator_laws.specs.IdleLines.{IdleLinesChangeNothing}
+use Rattle.ticket_format.specs.Reading.{accepted}
+use Rattle.ticket_format.specs.Ticket.{readTicket}
 
 unfoldable pub IdleClaim : Type 0
 IdleClaim = (text : List ℕ) (x : Instance) → readTicket text ≡ accepted x → IdleLinesChangeNothing x

@@ -6,13 +6,13 @@ use mathlib.Core.Path.{_≡_}
 use Prim.Native.Nat.{ℕ}
 use lib.ListN.{take}
 use Rattle.consensus.specs.Instance.{Instance}
-use Rattle.formats.specs.Capitals.{capital, EqualUpToCase, InCapitals}
-use Rattle.formats.specs.Ticket.{readTicket}
-use Rattle.formats.specs.ResultLine.{resultSize}
-use Rattle.formats.specs.Running.{programWrites}
-use Rattle.formats.specs.Settle.{settling}
-use Rattle.formats.specs.Reason.{reason}
-use Rattle.formats.specs.Code.{RunCall, ReasonsCall, numberCode}
+use Rattle.text.specs.Capitals.{capital, EqualUpToCase, InCapitals}
+use Rattle.ticket_format.specs.Ticket.{readTicket}
+use Rattle.answers.specs.ResultLine.{resultSize}
+use Rattle.answers.specs.Running.{programWrites}
+use Rattle.answers.specs.Settle.{settling}
+use Rattle.answers.specs.Reason.{reason}
+use Rattle.answers.specs.Code.{RunCall, ReasonsCall, numberCode}
 use Rattle.running.specs.Answer.{Ran}
 use Rattle.running.specs.Settling.{settlingOf}
 use Rattle.running.specs.declared.RunAnswer.{RunAnswer}

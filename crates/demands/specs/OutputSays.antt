@@ -13,10 +13,10 @@ use Rattle.general.specs.Counts.{countOf}
 use Rattle.consensus.specs.Instance.{Instance}
 use Rattle.consensus.specs.State.{State, decided, crashed}
 use Rattle.coordinator.specs.Run.{runOf, crashesOf}
-use Rattle.coordinator.specs.MessagesBySender.{dataBy, commitsBy}
+use Rattle.coordinator.specs.SentBy.{dataBy, commitsBy}
 use Rattle.consensus.specs.Consensus.{IsProcess}
-use Rattle.formats.specs.Line.{Line, bytes, noLine, linesOf}
-use Rattle.formats.specs.Says.{isKind}
+use Rattle.text.specs.Line.{Line, bytes, noLine, linesOf}
+use Rattle.ticket_format.specs.Says.{isKind}
 
 -- A station line of process p with this end: 11, station, end, round, value (4 bytes), data, commits.
 unfoldable pub isProcessLine : (p end : ℕ) → List ℕ → Bool

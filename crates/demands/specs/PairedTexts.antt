@@ -5,7 +5,7 @@ use mathlib.Core.List.{List, [], _∷_}
 use mathlib.Core.Path.{_≡_}
 use Prim.Native.Nat.{ℕ, _≤_}
 use lib.ListN.{getD}
-use Rattle.formats.specs.Line.{Line, bytes, linesOf}
+use Rattle.text.specs.Line.{Line, bytes, linesOf}
 
 -- A failure line of the commit step: 03, station, round, 02, set (8 bytes), count.
 pub record CommitLine (b : List ℕ) : Type 0 where

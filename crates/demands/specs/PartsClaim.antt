@@ -5,8 +5,8 @@ use mathlib.Core.Path.{_≡_}
 use Prim.Native.Nat.{ℕ}
 use Rattle.consensus.specs.Instance.{Instance}
 use Rattle.consensus.specs.Consensus.{UniformConsensus, NoLater}
-use Rattle.formats.specs.Reading.{accepted}
-use Rattle.formats.specs.Ticket.{readTicket}
+use Rattle.ticket_format.specs.Reading.{accepted}
+use Rattle.ticket_format.specs.Ticket.{readTicket}
 use Rattle.part_host.specs.DecideAlike.{DecideAlike, NoneRefused}
 use Rattle.part_host.specs.Output.{OutputYielded}
 use Rattle.part_host.specs.PartEnds.{endByPart, latestByParts}

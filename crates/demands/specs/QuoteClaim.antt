@@ -8,10 +8,10 @@ use Rattle.consensus.specs.Instance.{Instance}
 use Rattle.consensus.specs.State.{State}
 use Rattle.consensus.specs.Consensus.{IsProcess, Decides, CrashesUndecided}
 use Rattle.coordinator.specs.Run.{lastRound, endOf}
-use Rattle.formats.specs.Reading.{accepted}
-use Rattle.formats.specs.Ticket.{readTicket}
-use Rattle.formats.specs.FirstWrong.{FirstWrong}
-use Rattle.formats.specs.Code.{refusalCode}
+use Rattle.ticket_format.specs.Reading.{accepted}
+use Rattle.ticket_format.specs.Ticket.{readTicket}
+use Rattle.ticket_format.specs.FirstWrong.{FirstWrong}
+use Rattle.answers.specs.Code.{refusalCode}
 use Rattle.pricing.specs.Price.{priceOf}
 use Rattle.pricing.specs.PricedLines.{Priced, Unpriced}
 use Rattle.pricing.specs.Largest.{largestQuote}

@@ -8,12 +8,12 @@ use lib.ListN.{length, drop, getD}
 use Rattle.consensus.specs.Instance.{Instance}
 use Rattle.consensus.specs.Consensus.{IsProcess}
 use Rattle.coordinator.specs.Reason.{reasonOf, reasonsOf}
-use Rattle.coordinator.specs.TrueReasons.{IsRound, TrueReason, ReasonsTrue, ReasonsByEnds}
-use Rattle.formats.specs.Reading.{accepted}
-use Rattle.formats.specs.Ticket.{readTicket}
-use Rattle.formats.specs.FirstWrong.{FirstWrong}
-use Rattle.formats.specs.Reason.{reason, reasonsSize}
-use Rattle.formats.specs.Code.{refusalsFrom, refusalCode, numberCode, ReasonsCall}
+use Rattle.coordinator_laws.specs.TrueReasons.{IsRound, TrueReason, ReasonsTrue, ReasonsByEnds}
+use Rattle.ticket_format.specs.Reading.{accepted}
+use Rattle.ticket_format.specs.Ticket.{readTicket}
+use Rattle.ticket_format.specs.FirstWrong.{FirstWrong}
+use Rattle.answers.specs.Reason.{reason, reasonsSize}
+use Rattle.answers.specs.Code.{refusalsFrom, refusalCode, numberCode, ReasonsCall}
 use Rattle.running.specs.declared.RunAnswer.the-variants.{Written}
 use Rattle.reasons.specs.Answer.{reasonOfAnswer, Explained}
 use Rattle.reasons.specs.declared.ReasonAnswer.{ReasonAnswer}

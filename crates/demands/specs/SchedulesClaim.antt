@@ -5,8 +5,8 @@ use mathlib.Core.Path.{_≡_}
 use Prim.Native.Nat.{ℕ}
 use Rattle.consensus.specs.Instance.{Instance}
 use Rattle.consensus.specs.Consensus.{IsProcess, NoLater}
-use Rattle.formats.specs.Reading.{accepted}
-use Rattle.formats.specs.Ticket.{readTicket}
+use Rattle.ticket_format.specs.Reading.{accepted}
+use Rattle.ticket_format.specs.Ticket.{readTicket}
 use Rattle.part_host.specs.Part.{partOf}
 use Rattle.part_schedules.specs.Steps.{unstarted}
 use Rattle.part_schedules.specs.Schedule.{Schedule, scheduleSteps, played, InOrder}

@@ -9,9 +9,9 @@ use Rattle.consensus.specs.Instance.{Instance}
 use Rattle.consensus.specs.Consensus.{IsProcess}
 use Rattle.coordinator.specs.Count.{dataIn, commitsIn}
 use Rattle.coordinator.specs.Run.{runTo}
-use Rattle.coordinator.specs.MessagesBySender.{MessagesBySender}
-use Rattle.formats.specs.Reading.{accepted}
-use Rattle.formats.specs.Ticket.{readTicket}
+use Rattle.coordinator_laws.specs.MessagesBySender.{MessagesBySender}
+use Rattle.ticket_format.specs.Reading.{accepted}
+use Rattle.ticket_format.specs.Ticket.{readTicket}
 use Rattle.demands.specs.OutputSays.{Sent, Counts, sentSaid, countsSaid}
 use Rattle.demands.specs.Written.{Wrote}
 

@@ -4,11 +4,11 @@ use mathlib.Core.List.{List}
 use mathlib.Core.Path.{_≡_}
 use Prim.Native.Nat.{ℕ}
 use Rattle.consensus.specs.Instance.{Instance}
-use Rattle.coordinator.specs.FirstSettling.{FirstSettles, SettledSince}
-use Rattle.formats.specs.Reading.{accepted}
-use Rattle.formats.specs.Ticket.{readTicket}
-use Rattle.formats.specs.Settle.{settling}
-use Rattle.formats.specs.Code.{numberCode}
+use Rattle.coordinator_laws.specs.FirstSettling.{FirstSettles, SettledSince}
+use Rattle.ticket_format.specs.Reading.{accepted}
+use Rattle.ticket_format.specs.Ticket.{readTicket}
+use Rattle.answers.specs.Settle.{settling}
+use Rattle.answers.specs.Code.{numberCode}
 use Rattle.running.specs.Settling.{settlingOf}
 use Rattle.running.specs.declared.SettleAnswer.{SettleAnswer}
 use Rattle.running.specs.declared.SettleAnswer.the-variants.{Round}

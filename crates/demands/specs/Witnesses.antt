@@ -1,6 +1,6 @@
 -- The premises of the claims can be met: case 1 (document 01, 'Worked runs') is run, as it stands, in mixed letters and into a buffer that is too short, and
 -- paired with case 3 and with itself without its failure line; its lines say what counts of each process. (What else is answered on case 1 in mixed letters,
--- and on refused texts in two letterings: formats/specs/LetteringCases.) Settling case 1 names a round below the run's last, and settling the further run
+-- and on refused texts in two letterings: answers/specs/LetteringCases.) Settling case 1 names a round below the run's last, and settling the further run
 -- `crashesLater` one that is neither the first nor the last. Reasons are given in cases 1 and 6, and all of case 1 are written. Two processes of case 1 quote, and
 -- one that crashes does not. Cases 1, 3 and 5 are played by separate parts, case 1 in two orders.
 use mathlib.Core.List.{List, [], _∷_, _++_, map}
@@ -13,15 +13,17 @@ use Rattle.consensus.specs.State.{crashed}
 use Rattle.consensus.specs.Consensus.{IsProcess, Decides}
 use Rattle.consensus.specs.FourProcesses.{afterOneCommit, dataToTheLast}
 use Rattle.coordinator.specs.Run.{runOf, endOf}
-use Rattle.coordinator.specs.TrueReasons.{IsRound, StaysUp, endRound}
-use Rattle.formats.specs.Reading.{accepted}
-use Rattle.formats.specs.Ticket.{readTicket}
-use Rattle.formats.specs.Settle.{settling}
-use Rattle.formats.specs.Reason.{reason}
-use Rattle.formats.specs.Table.{textOf, opening, case1, case3, case5, case6}
-use Rattle.formats.specs.FurtherRuns.{crashesLater}
-use Rattle.formats.specs.LetterRuns.{case1Mixed}
-use Rattle.formats.specs.Code.{refusalsFrom, refusalCode, RunCall, ReasonsCall, numberCode}
+use Rattle.coordinator_laws.specs.TrueReasons.{IsRound, StaysUp, endRound}
+use Rattle.ticket_format.specs.Reading.{accepted}
+use Rattle.ticket_format.specs.Ticket.{readTicket}
+use Rattle.answers.specs.Settle.{settling}
+use Rattle.answers.specs.Reason.{reason}
+use Rattle.text.specs.TextOf.{textOf}
+use Rattle.ticket_format.specs.Openings.{opening}
+use Rattle.answers.specs.Table.{case1, case3, case5, case6}
+use Rattle.answers.specs.FurtherRuns.{crashesLater}
+use Rattle.answers.specs.LetterRuns.{case1Mixed}
+use Rattle.answers.specs.Code.{refusalsFrom, refusalCode, RunCall, ReasonsCall, numberCode}
 use Rattle.running.specs.Answer.{Ran}
 use Rattle.running.specs.declared.RunAnswer.the-variants.{Written}
 use Rattle.running.specs.Settling.{settlingOf}

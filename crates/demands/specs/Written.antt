@@ -3,11 +3,11 @@ use mathlib.Core.List.{List, _++_}
 use mathlib.Core.Path.{_≡_}
 use Prim.Native.Nat.{ℕ, _<_}
 use Rattle.consensus.specs.Instance.{Instance}
-use Rattle.formats.specs.Reading.{accepted}
-use Rattle.formats.specs.Ticket.{readTicket}
-use Rattle.formats.specs.ResultLine.{resultText}
-use Rattle.formats.specs.Running.{programWrites}
-use Rattle.formats.specs.Code.{refusalsFrom, RunCall}
+use Rattle.ticket_format.specs.Reading.{accepted}
+use Rattle.ticket_format.specs.Ticket.{readTicket}
+use Rattle.answers.specs.ResultLine.{resultText}
+use Rattle.answers.specs.Running.{programWrites}
+use Rattle.answers.specs.Code.{refusalsFrom, RunCall}
 use Rattle.running.specs.Answer.{Ran}
 use Rattle.running.specs.declared.RunAnswer.the-variants.{Written}
 

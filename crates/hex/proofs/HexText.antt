@@ -8,7 +8,7 @@ use borrow.Rule.Slice.PartMut.{midOf, putMid}
 use lib.ListN.{length, set, drop, getD, take, length-take, length-append}
 use lib.Seq.{take-suc, take-all}
 use Rattle.general.proofs.Overwrite.{set-seam, put-part}
-use Rattle.formats.specs.HexText.{digitOf, hexDigits, hexLine, lineSize}
+use Rattle.text.specs.HexText.{digitOf, hexDigits, hexLine, lineSize}
 
 length-hexDigits : (bs : List ℕ) → length (hexDigits bs) ≡ 2 * length bs
 unfolding hexDigits

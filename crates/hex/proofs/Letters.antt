@@ -4,7 +4,7 @@ use mathlib.Core.Path.{_≡_}
 use Prim.Native.Nat.{ℕ, _<_}
 use lib.ListN.{getD}
 use Rattle.general.proofs.Table.{entry-at}
-use Rattle.formats.specs.HexText.{digitOf}
+use Rattle.text.specs.HexText.{digitOf}
 use Rattle.hex.specs.Letters.{letterTable}
 
 pub letter-at : (letters : List ℕ) (v : ℕ) → letters ≡ letterTable → v < 16 → getD letters v 0 ≡ digitOf v

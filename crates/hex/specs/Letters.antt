@@ -2,7 +2,7 @@
 use mathlib.Core.List.{List}
 use Prim.Native.Nat.{ℕ}
 use Rattle.general.specs.Table.{tabulate}
-use Rattle.formats.specs.HexText.{digitOf}
+use Rattle.text.specs.HexText.{digitOf}
 
 -- The digit of each value below 16, at the value's place.
 unfoldable pub letterTable : List ℕ

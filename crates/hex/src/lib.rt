@@ -4,7 +4,7 @@ ghost use mathlib.Core.Path.{_≡_};
 ghost use mathlib.Core.List.{_++_};
 ghost use Prim.Native.Nat.{_+_, _/_, _%_, _≤_, _<_};
 ghost use lib.ListN.{length, set, drop};
-ghost use Rattle.formats.specs.HexText.{digitOf, hexLine, lineSize};
+ghost use Rattle.text.specs.HexText.{digitOf, hexLine, lineSize};
 ghost use Rattle.hex.specs.Letters.{letterTable};
 
 // The digits by value.

@@ -9,9 +9,9 @@ use lib.Dec.{eqb}
 use lib.ListN.{length, getD, drop, drop-of-length-le}
 use lib.Seq.{drop-cons}
 use Rattle.general.proofs.Tests.{by-equal, by-order}
-use Rattle.formats.specs.Digit.{digitValue, isDigit}
-use Rattle.formats.specs.Line.{bytes, noLine, even, odd, broken, scan, closed, unclosed, linesFrom, linesOf}
-use Rattle.formats.proofs.LineSteps.{lines-digit, lines-other, lines-closed}
+use Rattle.text.specs.Digit.{digitValue, isDigit}
+use Rattle.text.specs.Line.{bytes, noLine, even, odd, broken, scan, closed, unclosed, linesFrom, linesOf}
+use Rattle.text.proofs.LineSteps.{lines-digit, lines-other, lines-closed}
 use Rattle.lines.specs.Read.{firstLine, readAt}
 use Rattle.lines.specs.Scanned.{Scanned, Stops}
 use Rattle.lines.specs.declared.LineRead.the-variants.{Line as line, NoLine}

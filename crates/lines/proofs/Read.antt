@@ -8,9 +8,9 @@ use lib.Dec.{eqb}
 use lib.ListN.{length, getD, drop, length-append, length-drop, drop-of-length-le}
 use lib.Seq.{drop-cons, drop-drop}
 use Rattle.general.proofs.Bytes.{Bytes}
-use Rattle.formats.specs.Digit.{digitValue, isDigit}
-use Rattle.formats.specs.Line.{Line, bytes, noLine, Scan, even, odd, broken, scan, closed, unclosed, linesFrom, linesOf}
-use Rattle.formats.proofs.LineBytes.{Lines, lines-bytes}
+use Rattle.text.specs.Digit.{digitValue, isDigit}
+use Rattle.text.specs.Line.{Line, bytes, noLine, Scan, even, odd, broken, scan, closed, unclosed, linesFrom, linesOf}
+use Rattle.text.proofs.LineBytes.{Lines, lines-bytes}
 use Rattle.lines.specs.Words.{upperWord, lowerWord}
 use Rattle.lines.specs.Read.{firstLine, readAt}
 use Rattle.lines.specs.declared.Cursor.{Cursor}

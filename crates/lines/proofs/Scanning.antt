@@ -9,10 +9,10 @@ use lib.ListN.{length, getD, drop, length-append}
 use lib.Seq.{drop-cons}
 use Rattle.general.specs.BigEndian.{number, numberFrom}
 use Rattle.general.proofs.Tests.{by-order}
-use Rattle.formats.specs.Digit.{noDigit, digitValue, isDigit}
-use Rattle.formats.specs.Line.{even, odd, scan, linesFrom, linesOf}
-use Rattle.formats.proofs.Digit.{value-digit, value-no-digit}
-use Rattle.formats.proofs.LineSteps.{lines-digit}
+use Rattle.text.specs.Digit.{noDigit, digitValue, isDigit}
+use Rattle.text.specs.Line.{even, odd, scan, linesFrom, linesOf}
+use Rattle.text.proofs.Digit.{value-digit, value-no-digit}
+use Rattle.text.proofs.LineSteps.{lines-digit}
 use Rattle.lines.specs.Words.{upperWord, lowerWord}
 use Rattle.lines.specs.Scanned.{Scanned, Stops}
 use Rattle.lines.proofs.Words.{word, upperByte, lower-more, upper-more}

@@ -3,7 +3,7 @@
 use mathlib.Core.List.{List, [], _∷_}
 use Prim.Native.Nat.{ℕ, _+_, _*_}
 use lib.ListN.{length, drop}
-use Rattle.formats.specs.Line.{Line, bytes, noLine, linesOf}
+use Rattle.text.specs.Line.{Line, bytes, noLine, linesOf}
 use Rattle.lines.specs.Words.{upperWord, lowerWord}
 use Rattle.lines.specs.declared.LineRead.{LineRead}
 use Rattle.lines.specs.declared.LineRead.the-variants.{Line as line, NoLine}

@@ -4,8 +4,8 @@ use mathlib.Core.Path.{_≡_}
 use mathlib.Core.Bool.{false, _&&_}
 use Prim.Native.Nat.{ℕ, _+_, _*_, _≤_, _<_}
 use lib.ListN.{length, getD, drop}
-use Rattle.formats.specs.Digit.{isDigit}
-use Rattle.formats.specs.Line.{even, linesFrom, linesOf}
+use Rattle.text.specs.Digit.{isDigit}
+use Rattle.text.specs.Line.{even, linesFrom, linesOf}
 use Rattle.lines.specs.Words.{upperWord, lowerWord}
 
 -- From place `at` to place `end` stand the digits of some bytes, of which these are the two words.

@@ -1,47 +1,13 @@
-// The lines of a text: the table of digit values, and a cursor that reads one line by it, once, into numbers.
+// The lines of a text: a cursor that reads one line by the table of digit values, once, into numbers.
 ghost use mathlib.Core.Path.{_≡_};
 ghost use Prim.Native.Nat.{_<_};
-ghost use lib.ListN.{length, getD};
-ghost use Rattle.formats.specs.Digit.{digitTable};
+ghost use lib.ListN.{length};
+ghost use Rattle.text.specs.Digit.{digitTable};
 ghost use Rattle.lines.specs.Read.{readAt};
 ghost use Rattle.lines.specs.Scanned.{Scanned, Stops};
 
-// What stands for a byte that is no digit, @ or 64: more than the values of two digits add up to.
+// The mark of a byte that is no digit, @ or 64: more than the values of two digits add up to.
 const NO_DIGIT: u8 = b'@';
-
-// The value of each byte as a digit, or the mark of a byte that is none. A row has sixteen entries: 0 to 9 have theirs in the fourth row, A to F in the
-// fifth, written \x0A to \x0F, and a to f in the seventh, written \x0a to \x0f.
-const DIGIT_VALUES: [u8; 256] = *b"\
-    @@@@@@@@@@@@@@@@\
-    @@@@@@@@@@@@@@@@\
-    @@@@@@@@@@@@@@@@\
-    \x00\x01\x02\x03\x04\x05\x06\x07\x08\x09@@@@@@\
-    @\x0A\x0B\x0C\x0D\x0E\x0F@@@@@@@@@\
-    @@@@@@@@@@@@@@@@\
-    @\x0a\x0b\x0c\x0d\x0e\x0f@@@@@@@@@\
-    @@@@@@@@@@@@@@@@\
-    @@@@@@@@@@@@@@@@\
-    @@@@@@@@@@@@@@@@\
-    @@@@@@@@@@@@@@@@\
-    @@@@@@@@@@@@@@@@\
-    @@@@@@@@@@@@@@@@\
-    @@@@@@@@@@@@@@@@\
-    @@@@@@@@@@@@@@@@\
-    @@@@@@@@@@@@@@@@";
-
-// The table, to be made once and lent to whatever reads by it: a constant is made anew wherever it stands.
-pub fn digit_table() -> [u8; 256]
-    ensures { λ r. ⌜ r ≡ digitTable ⌝ }
-{
-    DIGIT_VALUES
-}
-
-// What a table has for a byte. By the table of digits that is its value, 0 to 15, or the mark.
-fn digit_value(values: &[u8; 256], c: u8) -> u8
-    ensures { λ r. ⌜ r ≡ getD (now (values .entry)) c 0 ⌝ }
-{
-    values[c as usize]
-}
 
 // A byte as a word.
 fn wide(x: u8) -> u64
@@ -67,8 +33,8 @@ fn read_digits(values: &[u8; 256], text: &[u8], at: usize) -> Digits
     let mut head: u64 = 0;
     let mut tail: u64 = 0;
     while end < text.len() - 1 {
-        let high = digit_value(values, text[end]);
-        let low = digit_value(values, text[end + 1]);
+        let high = digits::digit_value(values, text[end]);
+        let low = digits::digit_value(values, text[end + 1]);
         if NO_DIGIT <= high + low {
             return Digits { end, head, tail };
         }
@@ -130,7 +96,7 @@ impl Cursor {
     pub fn read(self, text: &[u8]) -> LineRead
         ensures { λ r. ⌜ r ≡ readAt (now (text .entry)) (self .at) ⌝ }
     {
-        let values = digit_table();
+        let values = digits::digit_table();
         self.read_by_table(&values, text)
     }
 }

@@ -14,9 +14,9 @@ use Rattle.coordinator.specs.Round.{sentBy, afterOutcome, after}
 use Rattle.coordinator.specs.Run.{runTo}
 use Rattle.coordinator.specs.WellFormed.{WellFormed}
 use Rattle.consensus.specs.Consensus.{IsProcess}
-use Rattle.coordinator.proofs.Pointwise.{stateAt, state-at}
-use Rattle.coordinator.proofs.Values.{Holds, holds-fitting}
-use Rattle.coordinator.proofs.Coordinator.{waits-below}
+use Rattle.coordinator_laws.proofs.Pointwise.{stateAt, state-at}
+use Rattle.coordinator_laws.proofs.Values.{Holds, holds-fitting}
+use Rattle.coordinator_laws.proofs.Coordinator.{waits-below}
 use Rattle.part_format.specs.PartState.{stateBytes, stateFrom, stateValid, isOwnRound, markOpen, markDecided, markOver}
 use Rattle.part_format.specs.Frame.{framesOf}
 use Rattle.part_format.specs.Speak.{speakRefusal, speakYields}

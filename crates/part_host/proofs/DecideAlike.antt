@@ -13,10 +13,10 @@ use Rattle.coordinator.specs.Round.{sentBy, received}
 use Rattle.coordinator.specs.Run.{runTo, runOf, endOf}
 use Rattle.coordinator.specs.WellFormed.{WellFormed}
 use Rattle.consensus.specs.Consensus.{IsProcess}
-use Rattle.coordinator.proofs.Pointwise.{stateAt, state-at}
-use Rattle.coordinator.proofs.Rounds.{received-below}
-use Rattle.coordinator.proofs.History.{heardAt, undecided-crashed, decided-crashed}
-use Rattle.coordinator.proofs.Values.{Holds, holds-fitting}
+use Rattle.coordinator_laws.proofs.Pointwise.{stateAt, state-at}
+use Rattle.coordinator_laws.proofs.Rounds.{received-below}
+use Rattle.coordinator_laws.proofs.History.{heardAt, undecided-crashed, decided-crashed}
+use Rattle.coordinator_laws.proofs.Values.{Holds, holds-fitting}
 use Rattle.part_format.specs.PartState.{stateBytes, stateFrom, markOpen, markDecided}
 use Rattle.part_format.specs.Frame.{framesOf}
 use Rattle.part_format.specs.Start.{startRefusal, startState, startBytes}

@@ -9,11 +9,11 @@ use Rattle.consensus.specs.State.{State, undecided, decided, crashed}
 use Rattle.consensus.specs.Consensus.{IsProcess}
 use Rattle.coordinator.specs.Run.{lastRound, endOf}
 use Rattle.coordinator.specs.WellFormed.{WellFormed}
-use Rattle.coordinator.proofs.Pointwise.{stateAt, state-at}
-use Rattle.coordinator.proofs.History.{undecided-decided, decided-later}
-use Rattle.coordinator.proofs.Coordinator.{waits-below, decided-since}
-use Rattle.coordinator.proofs.Reason.{crashed-since}
-use Rattle.coordinator.proofs.Ends.{end-at}
+use Rattle.coordinator_laws.proofs.Pointwise.{stateAt, state-at}
+use Rattle.coordinator_laws.proofs.History.{undecided-decided, decided-later}
+use Rattle.coordinator_laws.proofs.Coordinator.{waits-below, decided-since}
+use Rattle.coordinator_laws.proofs.Reason.{crashed-since}
+use Rattle.coordinator_laws.proofs.Ends.{end-at}
 use Rattle.part_format.specs.PartState.{stateFrom, stateBytes, stateValid, markOpen, markDecided, ValidBytes}
 use Rattle.part_format.proofs.Valid.{within-valid}
 use Rattle.part_format.proofs.ValidBytes.{valid-bytes}

@@ -10,11 +10,11 @@ use Rattle.consensus.specs.State.{State, crashed, stateOf}
 use Rattle.coordinator.specs.Run.{runTo, runOf, crashesOf, endOf, latestOf}
 use Rattle.coordinator.specs.WellFormed.{WellFormed}
 use Rattle.consensus.specs.Consensus.{IsProcess, UniformConsensus, NoLater}
-use Rattle.coordinator.specs.Pairing.{Paired}
-use Rattle.coordinator.proofs.Pointwise.{states-ext, state-at, length-states}
-use Rattle.coordinator.proofs.Values.{Holds, holds-fitting}
-use Rattle.coordinator.proofs.Consensus.{uniform-consensus}
-use Rattle.coordinator.proofs.Pair.{no-later}
+use Rattle.coordinator_laws.specs.Pairing.{Paired}
+use Rattle.coordinator_laws.proofs.Pointwise.{states-ext, state-at, length-states}
+use Rattle.coordinator_laws.proofs.Values.{Holds, holds-fitting}
+use Rattle.coordinator_laws.proofs.Consensus.{uniform-consensus}
+use Rattle.coordinator_laws.proofs.Pair.{no-later}
 use Rattle.part_format.proofs.RoundTrip.{state-from-bytes}
 use Rattle.part_host.specs.Part.{Part, crashedIn, partOf}
 use Rattle.part_host.specs.Host.{partsTo, partsOf, endPartOf}

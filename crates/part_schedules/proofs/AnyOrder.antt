@@ -11,7 +11,7 @@ use Rattle.general.proofs.Tests.{both}
 use Rattle.consensus.specs.Instance.{Instance, Fault, faultOf}
 use Rattle.consensus.specs.State.{State, crashesIn}
 use Rattle.consensus.specs.Consensus.{IsProcess, UniformConsensus, NoLater}
-use Rattle.coordinator.specs.Pairing.{Paired}
+use Rattle.coordinator_laws.specs.Pairing.{Paired}
 use Rattle.coordinator.specs.Run.{runOf, endOf}
 use Rattle.coordinator.specs.WellFormed.{WellFormed}
 use Rattle.part_format.specs.PartState.{ValidBytes}

@@ -10,10 +10,10 @@ use Rattle.consensus.specs.State.{State, decided}
 use Rattle.consensus.specs.Consensus.{IsProcess}
 use Rattle.coordinator.specs.Run.{lastRound, endOf}
 use Rattle.coordinator.specs.WellFormed.{WellFormed}
-use Rattle.coordinator.proofs.Pointwise.{stateAt, state-at}
-use Rattle.coordinator.proofs.History.{decided-later}
-use Rattle.coordinator.proofs.Coordinator.{waits-below}
-use Rattle.coordinator.proofs.Ends.{end-at}
+use Rattle.coordinator_laws.proofs.Pointwise.{stateAt, state-at}
+use Rattle.coordinator_laws.proofs.History.{decided-later}
+use Rattle.coordinator_laws.proofs.Coordinator.{waits-below}
+use Rattle.coordinator_laws.proofs.Ends.{end-at}
 use Rattle.part_format.specs.PartState.{stateFrom, stateBytes, stateValid, stateRefusal, markDecided, ValidBytes}
 use Rattle.part_format.proofs.Valid.{over-valid}
 use Rattle.part_format.proofs.ValidBytes.{valid-bytes}

@@ -12,7 +12,7 @@ use Rattle.consensus.specs.Instance.{Instance, faultOf}
 use Rattle.consensus.specs.State.{crashesIn}
 use Rattle.consensus.specs.Consensus.{IsProcess}
 use Rattle.coordinator.specs.WellFormed.{WellFormed}
-use Rattle.coordinator.proofs.Pointwise.{state-at}
+use Rattle.coordinator_laws.proofs.Pointwise.{state-at}
 use Rattle.part_host.specs.Part.{Part, up, crashedIn, partOf, isOpen, yielded}
 use Rattle.part_host.specs.Hearing.{letThrough, heard}
 use Rattle.part_host.specs.Host.{partAfter, partsTo}

@@ -15,8 +15,8 @@ use Rattle.consensus.specs.Consensus.{IsProcess}
 use Rattle.coordinator.specs.Undecided.{isUndecided, anyUndecided}
 use Rattle.coordinator.specs.Run.{runTo, runOf}
 use Rattle.coordinator.specs.WellFormed.{WellFormed}
-use Rattle.coordinator.specs.RunRounds.{RunRounds}
-use Rattle.coordinator.proofs.RunRounds.{run-rounds}
+use Rattle.coordinator_laws.specs.RunRounds.{RunRounds}
+use Rattle.coordinator_laws.proofs.RunRounds.{run-rounds}
 use Rattle.part_format.specs.PartState.{stateFrom, stateBytes, stateRefusal, ValidBytes}
 use Rattle.part_format.specs.Speak.{speakRefusal, speakAnswer}
 use Rattle.part_format.specs.Close.{closeRefusal, closeState}

@@ -12,17 +12,18 @@ use Rattle.consensus.specs.State.{stateOf, crashesIn}
 use Rattle.coordinator.specs.Round.{sentBy, received, afterOutcome, after, statesAfter}
 use Rattle.coordinator.specs.Undecided.{isUndecided, anyUndecided}
 use Rattle.coordinator.specs.Run.{initial, withRound, runTo, runOf, endOf}
-use Rattle.formats.specs.Digit.{digitValue, isDigit}
-use Rattle.formats.specs.Line.{scan, closed, unclosed, linesFrom, linesOf}
-use Rattle.formats.specs.Reading.{proceed, readFrom}
-use Rattle.formats.specs.FailureLine.{placesCrash, allBetween, suitsStep}
-use Rattle.formats.specs.Says.{isKind, headerSays, afterProposal, proposalSays, failureLine, crashSays, failureSays, lineSays}
-use Rattle.formats.specs.Accept.{unproposed, withProposal, withCrash, begin, store, accept}
-use Rattle.formats.specs.Ticket.{atEnd, readTicket}
-use Rattle.formats.specs.Code.{codeOf}
-use Rattle.formats.specs.Table.{textOf, opening, opening64}
-use Rattle.formats.specs.ReadingCases.{afterOpening}
-use Rattle.formats.specs.AnswerCases.{refusalRows}
+use Rattle.text.specs.Digit.{digitValue, isDigit}
+use Rattle.text.specs.Line.{scan, closed, unclosed, linesFrom, linesOf}
+use Rattle.ticket_format.specs.Reading.{proceed, readFrom}
+use Rattle.ticket_format.specs.FailureLine.{placesCrash, allBetween, suitsStep}
+use Rattle.ticket_format.specs.Says.{isKind, headerSays, afterProposal, proposalSays, failureLine, crashSays, failureSays, lineSays}
+use Rattle.ticket_format.specs.Accept.{unproposed, withProposal, withCrash, begin, store, accept}
+use Rattle.ticket_format.specs.Ticket.{atEnd, readTicket}
+use Rattle.answers.specs.Code.{codeOf}
+use Rattle.text.specs.TextOf.{textOf}
+use Rattle.ticket_format.specs.Openings.{opening, opening64}
+use Rattle.ticket_format.specs.Openings.{afterOpening}
+use Rattle.answers.specs.AnswerCases.{refusalRows}
 use Rattle.pricing.specs.Price.{overheadOf, markupOf, nearest, withRate, linePrice, priceOf}
 use Rattle.pricing.specs.Quote.{anyAbove, linesRefusal, quoteBy}
 use Rattle.pricing_format.specs.Quoting.{quotedOr16, ofLines, quoteIn, quoting}

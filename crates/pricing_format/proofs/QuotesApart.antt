@@ -10,11 +10,11 @@ use lib.Dec.{eqb, leb}
 use borrow.Author.Tests.{eqb-false}
 use Rattle.consensus.specs.Instance.{Instance}
 use Rattle.coordinator.specs.Run.{endOf}
-use Rattle.formats.specs.Reading.{Reading, accepted, refused}
-use Rattle.formats.specs.Ticket.{readTicket}
-use Rattle.formats.specs.CodesApart.{Within, ReadOff}
-use Rattle.formats.proofs.RefusalRange.{RefusedBy, lastRefused, ticket-refused}
-use Rattle.formats.proofs.CodesApart.{accepted-read, refused-read}
+use Rattle.ticket_format.specs.Reading.{Reading, accepted, refused}
+use Rattle.ticket_format.specs.Ticket.{readTicket}
+use Rattle.answers.specs.CodesApart.{Within, ReadOff}
+use Rattle.ticket_format.proofs.RefusalRange.{RefusedBy, lastRefused, ticket-refused}
+use Rattle.answers.proofs.CodesApart.{accepted-read, refused-read}
 use Rattle.pricing.specs.Quote.{linesRefusal, quoteBy}
 use Rattle.pricing.proofs.Lines.{lines-refused}
 use Rattle.part_format.specs.PartState.{stateRefusal}

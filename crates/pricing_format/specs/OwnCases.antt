@@ -3,7 +3,7 @@ use mathlib.Core.List.{List, [], _∷_, map}
 use mathlib.Core.Path.{_≡_}
 use Prim.Native.Nat.{ℕ}
 use lib.ListN.{replicate}
-use Rattle.formats.specs.Reading.{Reading, accepted, refused}
+use Rattle.ticket_format.specs.Reading.{Reading, accepted, refused}
 use Rattle.pricing_format.specs.OwnQuote.{ownQuote}
 
 -- Nine bytes of process 2, of four, of which two may crash, in this round, with this mark and with 03E801F4 for its value.

@@ -4,7 +4,7 @@ use mathlib.Core.List.{List}
 use Prim.Native.Nat.{ℕ}
 use mathlib.Core.Bool.{cond}
 use lib.Dec.{eqb}
-use Rattle.formats.specs.Reading.{Reading, refused}
+use Rattle.ticket_format.specs.Reading.{Reading, refused}
 use Rattle.pricing.specs.Quote.{quoteBy}
 use Rattle.part_format.specs.PartState.{stateRefusal}
 use Rattle.part_host.specs.Part.{up}

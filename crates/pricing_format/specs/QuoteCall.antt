@@ -3,8 +3,8 @@
 use mathlib.Core.List.{List}
 use mathlib.Core.Path.{_≡_}
 use Prim.Native.Nat.{ℕ}
-use Rattle.formats.specs.Reading.{Reading, accepted, refused}
-use Rattle.formats.specs.Code.{codeOf}
+use Rattle.ticket_format.specs.Reading.{Reading, accepted, refused}
+use Rattle.answers.specs.Code.{codeOf}
 use Rattle.pricing_format.specs.Quoting.{quoting}
 use Rattle.pricing_format.specs.OwnQuote.{ownQuote}
 

@@ -5,9 +5,10 @@ use mathlib.Core.Path.{_≡_}
 use Prim.Native.Nat.{ℕ}
 use Prim.Native.String.{String}
 use lib.ListN.{length, replicate}
-use Rattle.formats.specs.Reading.{Reading, accepted, refused}
-use Rattle.formats.specs.Table.{textOf, case1, case5, case6, case7, case8, case9, case12}
-use Rattle.formats.specs.AnswerCases.{RefusalRow, refusalRows}
+use Rattle.ticket_format.specs.Reading.{Reading, accepted, refused}
+use Rattle.text.specs.TextOf.{textOf}
+use Rattle.answers.specs.Table.{case1, case5, case6, case7, case8, case9, case12}
+use Rattle.answers.specs.AnswerCases.{RefusalRow, refusalRows}
 use Rattle.pricing_format.specs.Quoting.{quoting}
 use Rattle.pricing_format.specs.QuoteCall.{placeAfter, quoteCode, refusalNumber}
 

@@ -3,8 +3,8 @@ use mathlib.Core.List.{List}
 use mathlib.Core.Logic.{_⊎_}
 use mathlib.Core.Path.{_≡_}
 use Prim.Native.Nat.{ℕ, _<_}
-use Rattle.formats.specs.Reading.{Reading, accepted, refused}
-use Rattle.formats.specs.CodesApart.{Within, ReadOff, ofTicket}
+use Rattle.ticket_format.specs.Reading.{Reading, accepted, refused}
+use Rattle.answers.specs.CodesApart.{Within, ReadOff, ofTicket}
 use Rattle.pricing_format.specs.Quoting.{quoting}
 use Rattle.pricing_format.specs.OwnQuote.{ownQuote}
 use Rattle.pricing_format.specs.QuoteCall.{refusalNumber}

@@ -7,8 +7,8 @@ use mathlib.Core.Bool.{cond, _&&_}
 use lib.Dec.{eqb, leb}
 use Rattle.consensus.specs.Instance.{Instance}
 use Rattle.coordinator.specs.Run.{endOf}
-use Rattle.formats.specs.Reading.{Reading, accepted, refused}
-use Rattle.formats.specs.Ticket.{readTicket}
+use Rattle.ticket_format.specs.Reading.{Reading, accepted, refused}
+use Rattle.ticket_format.specs.Ticket.{readTicket}
 use Rattle.pricing.specs.Quote.{linesRefusal, quoteBy}
 
 -- A quote in pence; or refusal 16, of no line, of a process that has none.

@@ -19,8 +19,8 @@ use Rattle.tables.specs.declared.RunTable.{RunTable}
 use Rattle.tables.specs.InstanceOfTable.{instanceOf}
 use Rattle.tables.specs.RunOfTable.{stateByEnd, runFrom}
 use Rattle.tables.proofs.Places.{processes-of, end-in-table}
-use Rattle.formats.specs.Reading.{Reading, accepted, refused}
-use Rattle.formats.specs.Ticket.{readTicket}
+use Rattle.ticket_format.specs.Reading.{Reading, accepted, refused}
+use Rattle.ticket_format.specs.Ticket.{readTicket}
 use Rattle.pricing.specs.Price.{priceOf}
 use Rattle.pricing.specs.Quote.{linesRefusal, quoteBy}
 use Rattle.part_format.specs.PartState.{stateFrom, stateValid, stateRefusal}

@@ -6,7 +6,7 @@ ghost use mathlib.Core.Option.{some, none};
 ghost use Rattle.coordinator.specs.WellFormed.{WellFormed};
 ghost use Rattle.tables.specs.InstanceOfTable.{instanceOf, tableOf};
 ghost use Rattle.ticket.specs.Header.{AfterHeader};
-ghost use Rattle.formats.specs.Reading.{accepted};
+ghost use Rattle.ticket_format.specs.Reading.{accepted};
 ghost use Rattle.pricing.specs.Price.{priceOf};
 ghost use Rattle.pricing.specs.Quote.{linesRefusal};
 ghost use Rattle.pricing_format.specs.Quoting.{quotedOr16, quoteIn, quoting};

@@ -3,7 +3,7 @@
 use lines::Cursor;
 use lines::LineRead;
 ghost use mathlib.Core.Path.{_≡_};
-ghost use Rattle.formats.specs.Digit.{digitTable};
+ghost use Rattle.text.specs.Digit.{digitTable};
 ghost use Rattle.lines.specs.Read.{readAt};
 ghost use Rattle.reader.specs.Advance.{placeBehind, readerBehind, advanceAt};
 

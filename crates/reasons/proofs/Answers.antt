@@ -12,11 +12,11 @@ use Rattle.coordinator.specs.Reason.{reasonOf, reasonsTo, reasonsOf}
 use Rattle.tables.specs.declared.InstanceTable.{InstanceTable}
 use Rattle.tables.specs.declared.RunTable.{RunTable}
 use Rattle.tables.specs.InstanceOfTable.{instanceOf}
-use Rattle.formats.specs.Reading.{accepted, refused}
-use Rattle.formats.specs.Ticket.{readTicket}
-use Rattle.formats.specs.Running.{bufferAfter}
-use Rattle.formats.specs.Reason.{withinRun, reasonIn, reason, reasonsSize, reasonsWithin, reasons}
-use Rattle.formats.proofs.ReasonsLength.{length-reasons}
+use Rattle.ticket_format.specs.Reading.{accepted, refused}
+use Rattle.ticket_format.specs.Ticket.{readTicket}
+use Rattle.answers.specs.Running.{bufferAfter}
+use Rattle.answers.specs.Reason.{withinRun, reasonIn, reason, reasonsSize, reasonsWithin, reasons}
+use Rattle.answers.proofs.ReasonsLength.{length-reasons}
 use Rattle.coordinator_reason.specs.ByEnds.{rowsByEnds}
 use Rattle.running.specs.Answer.{answerOf}
 use Rattle.running.specs.declared.RunAnswer.{RunAnswer}

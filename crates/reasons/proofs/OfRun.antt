@@ -16,10 +16,10 @@ use Rattle.coordinator.specs.Message.{getsData}
 use Rattle.coordinator.specs.Delivery.{amongFirst, reachAt}
 use Rattle.coordinator.specs.Run.{Run, runOf, lastRound, endOf}
 use Rattle.coordinator.specs.Reason.{reasonOf, reasonsIn, reasonsTo}
-use Rattle.coordinator.specs.TrueReasons.{IsRound, endRound}
-use Rattle.coordinator.proofs.Counts.{rounds-le}
-use Rattle.coordinator.proofs.Settled.{none-ends-undecided}
-use Rattle.coordinator.proofs.ReasonsByEnds.{reasons-by-ends}
+use Rattle.coordinator_laws.specs.TrueReasons.{IsRound, endRound}
+use Rattle.coordinator_laws.proofs.Counts.{rounds-le}
+use Rattle.coordinator_laws.proofs.Settled.{none-ends-undecided}
+use Rattle.coordinator_laws.proofs.ReasonsByEnds.{reasons-by-ends}
 use Rattle.tables.specs.declared.InstanceTable.{InstanceTable}
 use Rattle.tables.specs.declared.RunTable.{RunTable}
 use Rattle.tables.specs.InstanceOfTable.{faultFrom, instanceOf}

@@ -1,8 +1,8 @@
 -- What the two operations on reasons answer, in the papers' numbers (document 01, 'The forms we use', last paragraph; document 02, Paper 7).
 use mathlib.Core.List.{List}
 use Prim.Native.Nat.{ℕ}
-use Rattle.formats.specs.Reading.{Reading, accepted, refused}
-use Rattle.formats.specs.Reason.{reasons}
+use Rattle.ticket_format.specs.Reading.{Reading, accepted, refused}
+use Rattle.answers.specs.Reason.{reasons}
 use Rattle.running.specs.Answer.{Writing}
 use Rattle.running.specs.declared.RunAnswer.{RunAnswer}
 use Rattle.reasons.specs.declared.ReasonAnswer.{ReasonAnswer}

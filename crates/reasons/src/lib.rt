@@ -6,7 +6,7 @@ ghost use lib.Dec.{leb};
 ghost use Rattle.coordinator.specs.WellFormed.{WellFormed};
 ghost use Rattle.tables.specs.InstanceOfTable.{instanceOf, tableOf};
 ghost use Rattle.ticket.specs.Header.{AfterHeader};
-ghost use Rattle.formats.specs.Reason.{reason};
+ghost use Rattle.answers.specs.Reason.{reason};
 ghost use Rattle.reasons.specs.Answer.{reasonOfAnswer, Explained};
 ghost use Rattle.reasons.specs.Finished.{Finished};
 use running::RunAnswer;

@@ -100,7 +100,7 @@ fn wide(x: u8) -> usize
 
 // The byte that two digits stand for. (The mark of another character would count as 0; no line has one.)
 fn byte_of(high: u8, low: u8) -> u8 {
-    let values = lines::digit_table();
+    let values = digits::digit_table();
     values[high as usize] % 16 * 16 + values[low as usize] % 16
 }
 

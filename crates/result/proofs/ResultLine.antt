@@ -1,10 +1,9 @@
--- Laws of result lines: one for each branch of `process_bytes`, and what one line more does to an output that is being written. Assumes nothing.
+-- Laws of result lines: what one line more does to an output that is being written. Assumes nothing.
 use mathlib.Core.List.{List, [], _∷_, _++_, append-nil, append-assoc}
 use mathlib.Core.Path.{_≡_, refl, sym, ap, ap₂, _∙_}
 use Prim.Native.Nat.{ℕ, zero, suc, _+_, _-_, _*_, _≤_, _<_}
 use native.Mathlib.Omega.{arith}
 use native.Mathlib.Numerals.{add-one}
-use borrow.Author.Tests.{ne-eqb}
 use borrow.Rule.Slice.PartMut.{midOf, putMid}
 use lib.ListN.{length, drop, getD, take, length-take, length-drop, length-append}
 use lib.Seq.{take-suc, take-all, getD-take}
@@ -14,26 +13,10 @@ use Rattle.general.specs.Counts.{countOf}
 use Rattle.general.proofs.Indexed.{mapFrom-snoc}
 use Rattle.consensus.specs.State.{State, crashed, stateOf}
 use Rattle.coordinator.specs.Run.{Run}
-use Rattle.tables.specs.RunOfTable.{stateByEnd}
-use Rattle.formats.specs.HexText.{hexLine, lineSize}
+use Rattle.text.specs.HexText.{hexLine, lineSize}
 use Rattle.hex.proofs.HexText.{length-hexLine, line-more}
-use Rattle.formats.proofs.ResultLength.{length-last, length-process-lines}
-use Rattle.formats.specs.ResultLine.{endBytes, processLine, lastLine, processLineSize, lastLineSize, joined, lineBy, processLines, resultLines, resultSize}
-
--- What `process_bytes` returns, by the process's end; `sent` are the messages that it sent.
-module _ (line : List ℕ) (p end round v : ℕ) (sent : List ℕ) where
-  pub line-undecided : line ≡ 0x11 ∷ p ∷ 0 ∷ 0 ∷ bytesOf 4 v ++ sent → end ≡ 0 → line ≡ 0x11 ∷ p ∷ endBytes (stateByEnd end round v) ++ sent
-  unfolding endBytes stateByEnd
-  line-undecided e h = rw h e
-
-  pub line-decided : line ≡ 0x11 ∷ p ∷ 1 ∷ round ∷ bytesOf 4 v ++ sent → end ≡ 1 → line ≡ 0x11 ∷ p ∷ endBytes (stateByEnd end round v) ++ sent
-  unfolding endBytes stateByEnd
-  line-decided e h = rw h e
-
-  pub line-crashed : line ≡ 0x11 ∷ p ∷ 2 ∷ round ∷ bytesOf 4 0 ++ sent → (end ≡ 0 → ⊥) → (end ≡ 1 → ⊥)
-      → line ≡ 0x11 ∷ p ∷ endBytes (stateByEnd end round v) ++ sent
-  unfolding endBytes stateByEnd
-  line-crashed e h g = simp (ne-eqb end 0 h, ne-eqb end 1 g) e
+use Rattle.answers.proofs.ResultLength.{length-last, length-process-lines}
+use Rattle.answers.specs.ResultLine.{endBytes, processLine, lastLine, processLineSize, lastLineSize, joined, lineBy, processLines, resultLines, resultSize}
 
 -- The line of process i + 1, of n, by what the arrays have at place i.
 pub line-of : (n i : ℕ) (dataBy commitsBy line : List ℕ) (s s′ : State) → i < n

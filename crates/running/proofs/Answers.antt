@@ -10,23 +10,23 @@ use lib.ListN.{length, take, drop}
 use Rattle.consensus.specs.Instance.{Instance}
 use Rattle.consensus.specs.CrashCount.{crashCount}
 use Rattle.coordinator.specs.Run.{Run, runOf, crashesOf}
-use Rattle.coordinator.specs.MessagesBySender.{dataBy, commitsBy}
+use Rattle.coordinator.specs.SentBy.{dataBy, commitsBy}
 use Rattle.coordinator.specs.Settling.{firstSettling}
-use Rattle.coordinator.proofs.FirstSettling.{rounds-settled}
+use Rattle.coordinator_laws.proofs.FirstSettling.{rounds-settled}
 use Rattle.tables.specs.InstanceOfTable.{instanceOf}
 use Rattle.tables.specs.declared.InstanceTable.{InstanceTable}
 use Rattle.tables.specs.declared.RunTable.{RunTable}
 use Rattle.tables.specs.RunOfTable.{runOver, runFrom}
-use Rattle.formats.specs.Reading.{Reading, accepted, refused}
-use Rattle.formats.specs.Ticket.{readTicket}
-use Rattle.formats.proofs.WellFormed.{accepted-well-formed}
-use Rattle.formats.specs.ResultLine.{resultText, resultLines, resultSize}
-use Rattle.formats.proofs.ResultLength.{length-text}
-use Rattle.formats.specs.Running.{resultIn, running, bufferAfter}
-use Rattle.formats.specs.Settle.{settlingIn, settling}
-use Rattle.coordinator_run.specs.CrashCountOver.{crashCountOver}
+use Rattle.ticket_format.specs.Reading.{Reading, accepted, refused}
+use Rattle.ticket_format.specs.Ticket.{readTicket}
+use Rattle.answers.proofs.WellFormed.{accepted-well-formed}
+use Rattle.answers.specs.ResultLine.{resultText, resultLines, resultSize}
+use Rattle.answers.proofs.ResultLength.{length-text}
+use Rattle.answers.specs.Running.{resultIn, running, bufferAfter}
+use Rattle.answers.specs.Settle.{settlingIn, settling}
+use Rattle.coordinator_crashes.specs.CrashCountOver.{crashCountOver}
 use Rattle.coordinator_run.specs.Running.{RunOf}
-use Rattle.coordinator_run.proofs.Crashes.{counts-by-rounds}
+use Rattle.coordinator_crashes.proofs.Crashes.{counts-by-rounds}
 use Rattle.coordinator_run.proofs.Settling.{whole-run, settled-run}
 use Rattle.running.specs.Answer.{answerOf, Ran}
 use Rattle.running.specs.Settling.{settlingOf}

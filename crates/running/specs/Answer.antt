@@ -3,10 +3,10 @@ use mathlib.Core.List.{List}
 use mathlib.Core.Path.{_≡_}
 use Prim.Native.Nat.{ℕ}
 use lib.ListN.{length}
-use Rattle.formats.specs.Reading.{Reading, accepted, refused}
+use Rattle.ticket_format.specs.Reading.{Reading, accepted, refused}
 use Rattle.running.specs.declared.RunAnswer.{RunAnswer}
 use Rattle.running.specs.declared.RunAnswer.the-variants.{Written, Refused}
-use Rattle.formats.specs.Running.{running, bufferAfter}
+use Rattle.answers.specs.Running.{running, bufferAfter}
 
 -- The answer of a call that writes: how many bytes it has written, or the refusal with its line.
 unfoldable pub answerOf : Reading (List ℕ) → RunAnswer

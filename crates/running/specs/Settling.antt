@@ -1,6 +1,6 @@
 -- What settling answers, in document 01's numbers ('The forms we use', last paragraph).
 use Prim.Native.Nat.{ℕ}
-use Rattle.formats.specs.Reading.{Reading, accepted, refused}
+use Rattle.ticket_format.specs.Reading.{Reading, accepted, refused}
 use Rattle.running.specs.declared.SettleAnswer.{SettleAnswer}
 use Rattle.running.specs.declared.SettleAnswer.the-variants.{Round, Refused}
 

@@ -5,9 +5,9 @@ ghost use Prim.Native.Nat.{_≤_};
 ghost use lib.ListN.{length, drop};
 ghost use Rattle.coordinator.specs.WellFormed.{WellFormed};
 ghost use Rattle.tables.specs.InstanceOfTable.{instanceOf, tableOf};
-ghost use Rattle.formats.specs.ResultLine.{resultSize, resultText};
+ghost use Rattle.answers.specs.ResultLine.{resultSize, resultText};
 ghost use Rattle.ticket.specs.Header.{AfterHeader};
-ghost use Rattle.formats.specs.Settle.{settling};
+ghost use Rattle.answers.specs.Settle.{settling};
 ghost use Rattle.running.specs.Answer.{Ran};
 ghost use Rattle.running.specs.Settling.{settlingOf};
 use ticket::HeaderRead;
@@ -57,7 +57,7 @@ fn write_run<'a>(
         &mut data_by,
         &mut commits_by,
     );
-    let f = coordinator_run::crash_count(n, crash_rounds, &run.ends, &run.end_rounds);
+    let f = coordinator_crashes::crash_count(n, crash_rounds, &run.ends, &run.end_rounds);
     result::write_result(
         out,
         n,

@@ -6,10 +6,10 @@ use native.Mathlib.Omega.{arith}
 use lib.ListN.{length, take, drop}
 use lib.Seq.{take-at}
 use Rattle.general.specs.BigEndian.{bytesOf}
-use Rattle.formats.specs.Reading.{Reading, accepted, refused}
-use Rattle.formats.specs.HexText.{hexDigits, hexLine}
-use Rattle.formats.specs.ResultLine.{resultSize, refusalLine}
-use Rattle.formats.specs.Running.{running, bufferAfter, written, programWrites}
+use Rattle.ticket_format.specs.Reading.{Reading, accepted, refused}
+use Rattle.text.specs.HexText.{hexDigits, hexLine}
+use Rattle.answers.specs.ResultLine.{resultSize, refusalLine}
+use Rattle.answers.specs.Running.{running, bufferAfter, written, programWrites}
 use Rattle.running.specs.Answer.{answerOf, Ran}
 use Rattle.running.specs.declared.RunAnswer.{RunAnswer}
 use Rattle.running.specs.declared.RunAnswer.the-variants.{Written, Refused}

@@ -4,9 +4,9 @@
 ghost use mathlib.Core.Path.{_≡_};
 ghost use Prim.Native.Nat.{_<_, _≤_};
 ghost use lib.ListN.{length, take};
-ghost use Rattle.formats.specs.ResultLine.{resultSize};
-ghost use Rattle.formats.specs.Running.{programWrites};
-ghost use Rattle.formats.specs.Ticket.{ticketLimit};
+ghost use Rattle.answers.specs.ResultLine.{resultSize};
+ghost use Rattle.answers.specs.Running.{programWrites};
+ghost use Rattle.ticket_format.specs.Ticket.{ticketLimit};
 ghost use Rattle.simulate.specs.Input.{Within};
 use running::RunAnswer;
 

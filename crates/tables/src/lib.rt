@@ -1,6 +1,9 @@
 // The table of a ticket's numbers, as reading it whole answers it, and the table by value that a run is kept in. Process p (document 01: station) stands
 // at place p - 1.
 // specs/ says which instance and which run a table stands for.
+ghost use mathlib.Core.Path.{_≡_};
+ghost use Prim.Native.Nat.{_≤_};
+ghost use Rattle.tables.specs.InitialTable.{initialTable};
 
 // What a ticket describes. A process is correct where its crash round is 0; `reached` has the sets of step 01, and `counts` the counts of step 02.
 pub struct InstanceTable {
@@ -31,4 +34,21 @@ pub struct RunTable {
     pub data_sent: u16,
     pub commits_sent: u16,
     pub undecided: u64,
+}
+
+// The run before round 1: every process holds its proposal.
+pub fn initial_run(n: u8, values: [u32; 64]) -> RunTable
+    requires { ⌜ (1 ≤ n) × (n ≤ 64) ⌝ }
+    ensures { λ run. ⌜ run ≡ initialTable n values ⌝ }
+{
+    RunTable {
+        ends: [UNDECIDED; 64],
+        end_rounds: [0; 64],
+        values: values,
+        rounds: 0,
+        speakers: 0,
+        data_sent: 0,
+        commits_sent: 0,
+        undecided: sets::first_processes(n),
+    }
 }

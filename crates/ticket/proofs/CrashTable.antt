@@ -11,9 +11,9 @@ use Rattle.consensus.specs.Instance.{Fault, correct, faultOf}
 use Rattle.tables.specs.InstanceOfTable.{faultFrom, instanceOf}
 use Rattle.tables.specs.declared.InstanceTable.{InstanceTable}
 use Rattle.tables.proofs.Places.{length-pattern, fault-at}
-use Rattle.formats.specs.declared.FailureLine.{FailureLine}
-use Rattle.formats.specs.FailureLine.{faultBy}
-use Rattle.formats.specs.Accept.{withCrash}
+use Rattle.ticket_format.specs.declared.FailureLine.{FailureLine}
+use Rattle.ticket_format.specs.FailureLine.{faultBy}
+use Rattle.ticket_format.specs.Accept.{withCrash}
 
 -- The table with a failure line at the place of its process.
 abbrev pub stored : InstanceTable → FailureLine → InstanceTable

@@ -2,14 +2,14 @@
 use mathlib.Core.List.{List}
 use mathlib.Core.Path.{_≡_, refl}
 use Prim.Native.Nat.{ℕ, _≤_}
-use Rattle.formats.specs.Says.{afterProposal, lineSays}
-use Rattle.formats.specs.declared.FailureLine.{FailureLine}
-use Rattle.formats.specs.declared.Place.{Place}
-use Rattle.formats.specs.declared.Place.the-variants.{Proposals, Failures}
-use Rattle.formats.specs.declared.LineAnswer.{LineAnswer}
-use Rattle.formats.specs.declared.LineAnswer.the-variants.{Proposal, Crash, End, Refused}
-use Rattle.formats.proofs.CrashAllowed.{crash-placed}
-use Rattle.formats.proofs.LineCases.{LineCase, proposalSaid, crashSaid, endSaid, lineRefused, line-case}
+use Rattle.ticket_format.specs.Says.{afterProposal, lineSays}
+use Rattle.ticket_format.specs.declared.FailureLine.{FailureLine}
+use Rattle.ticket_format.specs.declared.Place.{Place}
+use Rattle.ticket_format.specs.declared.Place.the-variants.{Proposals, Failures}
+use Rattle.ticket_format.specs.declared.LineAnswer.{LineAnswer}
+use Rattle.ticket_format.specs.declared.LineAnswer.the-variants.{Proposal, Crash, End, Refused}
+use Rattle.ticket_format.proofs.CrashPlaced.{crash-placed}
+use Rattle.ticket_format.proofs.LineCases.{LineCase, proposalSaid, crashSaid, endSaid, lineRefused, line-case}
 
 -- What is said of n processes at this place.
 pub record CrashFits (place : Place) (n lines : ℕ) (l : FailureLine) : Type 0 where

@@ -5,9 +5,9 @@ use Prim.Native.Nat.{ℕ, _≤_, _<_}
 use native.Mathlib.Omega.{arith}
 use borrow.Author.Tests.{lt-ltb, le-ltb, eq-eqb, ne-eqb}
 use lib.ListN.{length}
-use Rattle.formats.specs.Says.{headerSays}
-use Rattle.formats.specs.Ticket.{ticketLimit}
-use Rattle.formats.specs.declared.HeaderAnswer.{HeaderAnswer}
+use Rattle.ticket_format.specs.Says.{headerSays}
+use Rattle.ticket_format.specs.Ticket.{ticketLimit}
+use Rattle.ticket_format.specs.declared.HeaderAnswer.{HeaderAnswer}
 use Rattle.lines.specs.Words.{lineBytes}
 use Rattle.lines.specs.declared.Cursor.{Cursor}
 use Rattle.lines.specs.declared.LineRead.the-variants.{Line, NoLine}

@@ -8,13 +8,13 @@ use borrow.Author.Tests.{ltb-true, ltb-false, eqb-true, eqb-false, lt-ltb, le-lt
 use lib.Dec.{eqb, ltb}
 use lib.ListN.{length, getD, drop}
 use Rattle.consensus.specs.Instance.{withinLimits}
-use Rattle.formats.specs.Line.{linesOf}
-use Rattle.formats.specs.Reading.{refused, proceed, readFrom}
-use Rattle.formats.specs.Says.{headerSays}
-use Rattle.formats.specs.Accept.{header, begin, accept}
-use Rattle.formats.specs.Ticket.{ticketLimit, atEnd, readTicket}
-use Rattle.formats.specs.declared.HeaderAnswer.{HeaderAnswer}
-use Rattle.formats.proofs.LineCases.{HeaderCase, limitsSaid, headerRefused, header-case}
+use Rattle.text.specs.Line.{linesOf}
+use Rattle.ticket_format.specs.Reading.{refused, proceed, readFrom}
+use Rattle.ticket_format.specs.Says.{headerSays}
+use Rattle.ticket_format.specs.Accept.{header, begin, accept}
+use Rattle.ticket_format.specs.Ticket.{ticketLimit, atEnd, readTicket}
+use Rattle.ticket_format.specs.declared.HeaderAnswer.{HeaderAnswer}
+use Rattle.ticket_format.proofs.LineCases.{HeaderCase, limitsSaid, headerRefused, header-case}
 use Rattle.lines.specs.Words.{lineBytes}
 use Rattle.lines.specs.Read.{readAt}
 use Rattle.lines.specs.declared.Cursor.{Cursor}

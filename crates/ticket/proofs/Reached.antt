@@ -12,16 +12,16 @@ use Rattle.consensus.specs.Instance.{Instance}
 use Rattle.consensus.proofs.Limits.{limits-hold}
 use Rattle.tables.specs.InstanceOfTable.{instanceOf, tableOf, emptyTable}
 use Rattle.tables.specs.declared.InstanceTable.{InstanceTable}
-use Rattle.formats.specs.Line.{linesOf}
-use Rattle.formats.specs.Reading.{refused, proceed, readFrom}
-use Rattle.formats.specs.Says.{afterProposal, lineSays}
-use Rattle.formats.specs.Accept.{withProposal, withCrash, store, accept}
-use Rattle.formats.specs.Ticket.{ticketLimit, atEnd, readTicket}
-use Rattle.formats.specs.declared.FailureLine.{FailureLine}
-use Rattle.formats.specs.declared.Place.{Place}
-use Rattle.formats.specs.declared.Place.the-variants.{Proposals, Failures, Ended}
-use Rattle.formats.specs.declared.LineAnswer.{LineAnswer}
-use Rattle.formats.specs.declared.LineAnswer.the-variants.{Proposal, Crash, End, Refused}
+use Rattle.text.specs.Line.{linesOf}
+use Rattle.ticket_format.specs.Reading.{refused, proceed, readFrom}
+use Rattle.ticket_format.specs.Says.{afterProposal, lineSays}
+use Rattle.ticket_format.specs.Accept.{withProposal, withCrash, store, accept}
+use Rattle.ticket_format.specs.Ticket.{ticketLimit, atEnd, readTicket}
+use Rattle.ticket_format.specs.declared.FailureLine.{FailureLine}
+use Rattle.ticket_format.specs.declared.Place.{Place}
+use Rattle.ticket_format.specs.declared.Place.the-variants.{Proposals, Failures, Ended}
+use Rattle.ticket_format.specs.declared.LineAnswer.{LineAnswer}
+use Rattle.ticket_format.specs.declared.LineAnswer.the-variants.{Proposal, Crash, End, Refused}
 use Rattle.lines.specs.Words.{lineBytes}
 use Rattle.lines.specs.Read.{readAt}
 use Rattle.lines.specs.declared.Cursor.{Cursor}

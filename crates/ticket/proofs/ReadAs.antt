@@ -4,8 +4,8 @@ use mathlib.Core.Path.{_≡_, sym, ap, _∙_}
 use Prim.Native.Nat.{ℕ}
 use Rattle.tables.specs.InstanceOfTable.{instanceOf}
 use Rattle.tables.specs.declared.InstanceTable.{InstanceTable}
-use Rattle.formats.specs.Reading.{accepted, refused}
-use Rattle.formats.specs.Ticket.{readTicket}
+use Rattle.ticket_format.specs.Reading.{accepted, refused}
+use Rattle.ticket_format.specs.Ticket.{readTicket}
 use Rattle.ticket.specs.Answer.{readingFrom}
 use Rattle.ticket.specs.declared.TicketAnswer.{TicketAnswer}
 use Rattle.ticket.specs.declared.TicketAnswer.the-variants.{Accepted, Refused}

@@ -3,9 +3,9 @@ use lib.ListN.{take}
 use Rattle.consensus.specs.Instance.{Instance}
 use Rattle.tables.specs.InstanceOfTable.{instanceOf}
 use Rattle.tables.specs.declared.InstanceTable.{InstanceTable}
-use Rattle.formats.specs.Accept.{Stage, body}
-use Rattle.formats.specs.declared.Place.{Place}
-use Rattle.formats.specs.declared.Place.the-variants.{Proposals, Failures, Ended}
+use Rattle.ticket_format.specs.Accept.{Stage, body}
+use Rattle.ticket_format.specs.declared.Place.{Place}
+use Rattle.ticket_format.specs.declared.Place.the-variants.{Proposals, Failures, Ended}
 
 -- The instance as described so far: the table's, with the proposals that were made.
 unfoldable pub soFar : Place → InstanceTable → Instance

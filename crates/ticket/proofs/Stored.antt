@@ -12,9 +12,9 @@ use Rattle.general.proofs.Lists.{take-replicate}
 use Rattle.consensus.specs.Instance.{Fault, correct}
 use Rattle.tables.specs.InstanceOfTable.{faultFrom, faultIn, instanceOf}
 use Rattle.tables.specs.declared.InstanceTable.{InstanceTable}
-use Rattle.formats.specs.Says.{afterProposal}
-use Rattle.formats.specs.Accept.{unproposed, withProposal}
-use Rattle.formats.specs.declared.Place.the-variants.{Proposals, Failures}
+use Rattle.ticket_format.specs.Says.{afterProposal}
+use Rattle.ticket_format.specs.Accept.{unproposed, withProposal}
+use Rattle.ticket_format.specs.declared.Place.the-variants.{Proposals, Failures}
 use Rattle.ticket.proofs.Stage.{soFar}
 
 -- The table with one value more.

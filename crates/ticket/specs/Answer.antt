@@ -3,7 +3,7 @@
 use Rattle.consensus.specs.Instance.{Instance}
 use Rattle.tables.specs.InstanceOfTable.{instanceOf}
 use Rattle.tables.specs.declared.InstanceTable.{InstanceTable}
-use Rattle.formats.specs.Reading.{Reading, accepted, refused}
+use Rattle.ticket_format.specs.Reading.{Reading, accepted, refused}
 use Rattle.ticket.specs.declared.TicketAnswer.{TicketAnswer}
 use Rattle.ticket.specs.declared.TicketAnswer.the-variants.{Accepted, Refused}
 use Rattle.ticket.specs.declared.TicketRead.{TicketRead}

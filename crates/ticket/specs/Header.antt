@@ -6,13 +6,13 @@ use Prim.Native.Nat.{ℕ, _≤_}
 use lib.Dec.{eqb, ltb}
 use lib.ListN.{length, drop}
 use Rattle.consensus.specs.Instance.{withinLimits}
-use Rattle.formats.specs.Line.{linesOf}
-use Rattle.formats.specs.Reading.{readFrom}
-use Rattle.formats.specs.Says.{headerSays}
-use Rattle.formats.specs.Accept.{body, unproposed, accept}
-use Rattle.formats.specs.declared.HeaderAnswer.{HeaderAnswer}
-use Rattle.formats.specs.declared.Place.the-variants.{Proposals}
-use Rattle.formats.specs.Ticket.{ticketLimit, atEnd, readTicket}
+use Rattle.text.specs.Line.{linesOf}
+use Rattle.ticket_format.specs.Reading.{readFrom}
+use Rattle.ticket_format.specs.Says.{headerSays}
+use Rattle.ticket_format.specs.Accept.{body, unproposed, accept}
+use Rattle.ticket_format.specs.declared.HeaderAnswer.{HeaderAnswer}
+use Rattle.ticket_format.specs.declared.Place.the-variants.{Proposals}
+use Rattle.ticket_format.specs.Ticket.{ticketLimit, atEnd, readTicket}
 use Rattle.lines.specs.Words.{lineBytes}
 use Rattle.lines.specs.Read.{readAt}
 use Rattle.lines.specs.declared.LineRead.{LineRead}

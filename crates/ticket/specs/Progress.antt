@@ -1,7 +1,7 @@
 -- For the code alone: what a text that is over is answered with.
 use Prim.Native.Nat.{ℕ}
-use Rattle.formats.specs.declared.Place.{Place}
-use Rattle.formats.specs.declared.Place.the-variants.{Proposals, Failures, Ended}
+use Rattle.ticket_format.specs.declared.Place.{Place}
+use Rattle.ticket_format.specs.declared.Place.the-variants.{Proposals, Failures, Ended}
 use Rattle.ticket.specs.declared.TicketAnswer.{TicketAnswer}
 
 -- A text that is over at line k.

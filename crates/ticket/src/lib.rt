@@ -1,12 +1,12 @@
 // Reading a ticket (document 01, 'The ticket'): from any bytes to an instance or a refusal.
-use formats::HeaderAnswer;
-use formats::LineAnswer;
-use formats::Place;
+use ticket_format::HeaderAnswer;
+use ticket_format::LineAnswer;
+use ticket_format::Place;
 use lines::LineRead;
 use tables::InstanceTable;
 ghost use mathlib.Core.Path.{_≡_};
 ghost use Rattle.tables.specs.InstanceOfTable.{emptyTable, tableOf};
-ghost use Rattle.formats.specs.Ticket.{readTicket};
+ghost use Rattle.ticket_format.specs.Ticket.{readTicket};
 ghost use Rattle.ticket.specs.Progress.{endAnswer};
 ghost use Rattle.ticket.specs.Answer.{readingFrom, readingOf};
 ghost use Rattle.ticket.specs.declared.TicketAnswer.{TicketAnswer};
@@ -92,7 +92,7 @@ pub fn read_rest(
         (tableOf n t (now (values .exit)) (now («crash_rounds» .exit)) (now (steps .exit)) (now (reached .exit)) (now (counts .exit)))
         ≡ readTicket (now (text .entry)) ⌝ }
 {
-    let digit_table = lines::digit_table();
+    let digit_table = digits::digit_table();
     let mut here = at;
     let mut place = Place::Proposals(0);
     let mut k: u16 = 2;

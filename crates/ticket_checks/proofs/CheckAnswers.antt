@@ -5,8 +5,8 @@ use Prim.Native.Nat.{ℕ, suc, _-_, _≤_, _<_}
 use lib.Dec.{eqb, ltb, leb}
 use borrow.Author.Tests.{lt-ltb, le-ltb, le-leb, lt-leb, eq-eqb, ne-eqb}
 use Rattle.consensus.specs.Instance.{withinLimits}
-use Rattle.formats.specs.declared.FailureLine.{FailureLine}
-use Rattle.formats.specs.FailureLine.{placesCrash, allBetween, suitsStep}
+use Rattle.ticket_format.specs.declared.FailureLine.{FailureLine}
+use Rattle.ticket_format.specs.FailureLine.{placesCrash, allBetween, suitsStep}
 
 -- Refusal 4.
 module _ (n t : ℕ) where

@@ -6,7 +6,7 @@ use lib.Dec.{eqb, ltb}
 use lib.Bits.{bitAnd}
 use borrow.Author.Tests.{eq-eqb, ne-eqb}
 use Rattle.general.proofs.Bits.{below-power, meets}
-use Rattle.formats.specs.FailureLine.{allBetween}
+use Rattle.ticket_format.specs.FailureLine.{allBetween}
 
 module _ (p n reached mask : ℕ) (first-p : mask ≡ 2 ^ p - 1) where
   low-part : bitAnd reached mask ≡ reached % 2 ^ p

@@ -1,9 +1,9 @@
 // The checks of a ticket's lines behind refusals 4, 7 and 8 (document 01, 'Refused calls'), each equal to its definition.
-use formats::FailureLine;
+use ticket_format::FailureLine;
 ghost use mathlib.Core.Path.{_≡_};
 ghost use Prim.Native.Nat.{_≤_};
 ghost use Rattle.consensus.specs.Instance.{withinLimits};
-ghost use Rattle.formats.specs.FailureLine.{placesCrash, allBetween, suitsStep};
+ghost use Rattle.ticket_format.specs.FailureLine.{placesCrash, allBetween, suitsStep};
 
 // True where refusal 4 does not apply: 1 ≤ n ≤ 64 and t < n.
 pub fn within_limits(n: u8, t: u8) -> bool

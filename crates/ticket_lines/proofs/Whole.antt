@@ -9,11 +9,11 @@ use lib.Dec.{eqb}
 use lib.ListN.{length, getD}
 use Rattle.general.proofs.Bytes.{Bytes}
 use Rattle.general.proofs.Tests.{by-order}
-use Rattle.formats.specs.Says.{isKind, headerSays, proposalSays, failureSays, lineSays}
-use Rattle.formats.specs.declared.Place.{Place}
-use Rattle.formats.specs.declared.Place.the-variants.{Proposals, Failures, Ended}
-use Rattle.formats.specs.declared.HeaderAnswer.{HeaderAnswer}
-use Rattle.formats.specs.declared.LineAnswer.the-variants.{Refused}
+use Rattle.ticket_format.specs.Says.{isKind, headerSays, proposalSays, failureSays, lineSays}
+use Rattle.ticket_format.specs.declared.Place.{Place}
+use Rattle.ticket_format.specs.declared.Place.the-variants.{Proposals, Failures, Ended}
+use Rattle.ticket_format.specs.declared.HeaderAnswer.{HeaderAnswer}
+use Rattle.ticket_format.specs.declared.LineAnswer.the-variants.{Refused}
 use Rattle.lines.specs.Words.{upperWord, lowerWord, lineBytes}
 use Rattle.lines.proofs.Words.{words-bytes}
 use Rattle.ticket_lines.proofs.Fields.{length-line}

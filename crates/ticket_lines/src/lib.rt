@@ -1,14 +1,14 @@
 // What one line of a ticket says where it stands (document 01, 'The ticket' and refusals 3 to 8). A line comes as its size and its last sixteen bytes as
 // two words.
-use formats::FailureLine;
-use formats::HeaderAnswer;
-use formats::LineAnswer;
-use formats::Place;
+use ticket_format::FailureLine;
+use ticket_format::HeaderAnswer;
+use ticket_format::LineAnswer;
+use ticket_format::Place;
 ghost use mathlib.Core.Path.{_≡_};
 ghost use Prim.Native.Nat.{_≤_, _<_};
 ghost use Rattle.lines.specs.Words.{lineBytes};
-ghost use Rattle.formats.specs.Says.{headerSays, afterProposal, proposalSays, failureLine, crashSays, failureSays, lineSays};
-ghost use Rattle.formats.specs.declared.LineAnswer.the-variants.{Proposal};
+ghost use Rattle.ticket_format.specs.Says.{headerSays, afterProposal, proposalSays, failureLine, crashSays, failureSays, lineSays};
+ghost use Rattle.ticket_format.specs.declared.LineAnswer.the-variants.{Proposal};
 ghost use Rattle.ticket_lines.specs.Places.{HasPlaces};
 
 // The kinds of a ticket's lines, and the bytes that each has.

@@ -28,7 +28,7 @@ use rules::Rules;
 #[derive(Clone, Copy, Debug)]
 pub struct World {
     /// The edit crates/CRATE/must-fail/NAME.edit, as CRATE/NAME, of crate
-    /// consensus, coordinator or formats; or what is wrong, in words, as a program or a claim
+    /// consensus, coordinator, coordinator_laws or answers; or what is wrong, in words, as a program or a claim
     /// may have it.
     pub name: &'static str,
     /// The rules, with a wrong one among them.

@@ -591,17 +591,17 @@ const SHOWN: &[World] = &[
         },
     ),
     world(
-        "formats/commits-of-a-process-before-its-data",
+        "answers/commits-of-a-process-before-its-data",
         &[CountsOwnRound, CountsAddUp],
         Rules { shown: |line| (line.own().1, line.own().0), ..RIGHT },
     ),
     world(
-        "formats/counts-of-the-next-process",
+        "answers/counts-of-the-next-process",
         &[CountsOwnRound, CountsAddUp],
         Rules { shown: |line| line.counted_of(line.process + 1), ..RIGHT },
     ),
     world(
-        "formats/total-in-every-line",
+        "answers/total-in-every-line",
         &[CountsOwnRound, CountsAddUp, CountsThoseAbove],
         Rules { shown: |line| line.in_all, ..RIGHT },
     ),
@@ -611,7 +611,7 @@ const SHOWN: &[World] = &[
         Rules { shown: |line| if line.process == 1 { line.in_all } else { (0, 0) }, ..RIGHT },
     ),
     world(
-        "formats/crashed-process-shows-no-messages",
+        "answers/crashed-process-shows-no-messages",
         &[CountsOwnRound, CountsAddUp],
         Rules { shown: |line| if has_crashed(line.end) { (0, 0) } else { line.own() }, ..RIGHT },
     ),
@@ -673,7 +673,7 @@ const SETTLING: &[World] = &[
         Rules { may_settle: |round, _, last| 1 <= round && round <= last, ..RIGHT },
     ),
     world(
-        "formats/only-the-last-round-settles",
+        "answers/only-the-last-round-settles",
         &[NoneDecidesBeforeSettling],
         Rules { may_settle: |round, rounds, _| round == rounds, ..RIGHT },
     ),
@@ -836,7 +836,7 @@ const REASONED: &[World] = &[
         Rules { reason: |at| if at.crashes() { 7 } else { at.reason() }, ..RIGHT },
     ),
     world(
-        "coordinator/who-decides-has-reason-7-in-that-round",
+        "coordinator_laws/who-decides-has-reason-7-in-that-round",
         &[ReasonIsTrue, ReasonTellsTheEnd],
         Rules { reason: |at| if at.decides() { 7 } else { at.reason() }, ..RIGHT },
     ),
@@ -861,7 +861,7 @@ const REASONED: &[World] = &[
         Rules { reason: |at| if at.reason() == 5 { 4 } else { at.reason() }, ..RIGHT },
     ),
     world(
-        "coordinator/reason-4-of-a-coordinator-crashed-as-the-round-ends",
+        "coordinator_laws/reason-4-of-a-coordinator-crashed-as-the-round-ends",
         &[OneReasonIsTrue],
         Rules {
             reason_is_true: |at, reason| {
@@ -872,7 +872,7 @@ const REASONED: &[World] = &[
         },
     ),
     world(
-        "coordinator/reason-1-of-every-coordinator",
+        "coordinator_laws/reason-1-of-every-coordinator",
         &[OneReasonIsTrue],
         Rules {
             reason_is_true: |at, reason| {
@@ -882,7 +882,7 @@ const REASONED: &[World] = &[
         },
     ),
     world(
-        "coordinator/reasons-2-to-5-of-who-crashes-too",
+        "coordinator_laws/reasons-2-to-5-of-who-crashes-too",
         &[OneReasonIsTrue],
         Rules {
             reason_is_true: |at, reason| {
@@ -893,7 +893,7 @@ const REASONED: &[World] = &[
         },
     ),
     world(
-        "coordinator/reason-1-of-whoever-decides",
+        "coordinator_laws/reason-1-of-whoever-decides",
         &[OneReasonIsTrue],
         Rules {
             reason_is_true: |at, reason| at.is_true(reason) || (reason == 1 && at.decides()),
@@ -901,7 +901,7 @@ const REASONED: &[World] = &[
         },
     ),
     world(
-        "coordinator/reason-7-of-who-has-ended-as-the-round-ends",
+        "coordinator_laws/reason-7-of-who-has-ended-as-the-round-ends",
         &[OneReasonIsTrue],
         Rules {
             reason_is_true: |at, reason| {
@@ -911,7 +911,7 @@ const REASONED: &[World] = &[
         },
     ),
     world(
-        "coordinator/reason-5-of-who-hears-a-crashing-coordinator",
+        "coordinator_laws/reason-5-of-who-hears-a-crashing-coordinator",
         &[OneReasonIsTrue],
         Rules {
             reason_is_true: |at, reason| {
@@ -922,12 +922,12 @@ const REASONED: &[World] = &[
         },
     ),
     world(
-        "coordinator/coordinators-never-crash-before",
+        "coordinator_laws/coordinators-never-crash-before",
         &[CoordinatorsNotDecided],
         Rules { never_before: has_crashed, ..RIGHT },
     ),
     world(
-        "coordinator/reason-6-of-whoever-has-crashed",
+        "coordinator_laws/reason-6-of-whoever-has-crashed",
         &[OneReasonIsTrue],
         Rules {
             reason_is_true: |at, reason| {
@@ -942,7 +942,12 @@ const REASONED: &[World] = &[
         Rules { reason: |at| if at.reason() == 3 { 5 } else { at.reason() }, ..RIGHT },
     ),
     world(
-        "coordinator/clauses-4-and-5-swapped-with-the-function",
+        "coordinator_laws/clauses-4-and-5-swapped",
+        &[ReasonIsTrue],
+        Rules { reason_is_true: |at, reason| at.is_true(swapped_4_and_5(reason)), ..RIGHT },
+    ),
+    world(
+        "reasons 4 and 5 swapped, in the function and in the claim",
         &[WorkedRun("case 4")],
         Rules {
             reason: |at| swapped_4_and_5(at.reason()),
@@ -1027,7 +1032,7 @@ const CLAIMED: &[World] = &[
         Rules { f_of_crashed: |crashed| crashed + 1, ..RIGHT },
     ),
     world(
-        "coordinator/a-round-after-the-end",
+        "coordinator_laws/a-round-after-the-end",
         &[CountsRounds],
         Rules { is_of_run: |round, rounds| round <= rounds + 1, ..RIGHT },
     ),
@@ -1052,7 +1057,7 @@ const CLAIMED: &[World] = &[
         Rules { ends_from: 2, ..RIGHT },
     ),
     world(
-        "coordinator/speakers-at-most-f",
+        "coordinator_laws/speakers-at-most-f",
         &[SpeakersWithinBound],
         Rules { most_speakers: |f| u64::from(f), ..RIGHT },
     ),
@@ -1082,38 +1087,38 @@ const CLAIMED: &[World] = &[
         Rules { counted_among: |sent_to, _| sent_to, ..RIGHT },
     ),
     world(
-        "coordinator/counted-as-the-round-ends",
+        "coordinator_laws/counted-as-the-round-ends",
         &[CountsOwnRound],
         Rules { sends_after: |process| process, ..RIGHT },
     ),
-    world("coordinator/sum-without-process-1", &[CountsAddUp], Rules { summed_from: 2, ..RIGHT }),
+    world("coordinator_laws/sum-without-process-1", &[CountsAddUp], Rules { summed_from: 2, ..RIGHT }),
     world(
-        "coordinator/one-message-fewer-than-processes-above",
+        "coordinator_laws/one-message-fewer-than-processes-above",
         &[CountsThoseAbove],
         Rules { most_of_process: |n, process| u64::from(n - process).saturating_sub(1), ..RIGHT },
     ),
     world(
-        "coordinator/no-round-up-to-the-named-qualifies",
+        "coordinator_laws/no-round-up-to-the-named-qualifies",
         &[SettlingRoundIsLowest],
         Rules { too_low_to_settle: |round, settled| round <= settled, ..RIGHT },
     ),
     world(
-        "coordinator/rounds-qualify-after-the-end",
+        "coordinator_laws/rounds-qualify-after-the-end",
         &[StaysSettled],
         Rules { settled_up_to: |rounds| rounds + 1, ..RIGHT },
     ),
     world(
-        "coordinator/every-round-of-the-run-qualifies",
+        "coordinator_laws/every-round-of-the-run-qualifies",
         &[StaysSettled],
         Rules { settles_the_rest: |_| true, ..RIGHT },
     ),
     world(
-        "coordinator/nobody-decides-in-the-settling-round",
+        "coordinator_laws/nobody-decides-in-the-settling-round",
         &[NoneDecidesBeforeSettling],
         Rules { may_decide: |round, settled| settled < round, ..RIGHT },
     ),
     world(
-        "coordinator/decision-held-by-all-from-round-1",
+        "coordinator_laws/decision-held-by-all-from-round-1",
         &[DecisionIsSettled],
         Rules { decision_held_from: |_| 1, ..RIGHT },
     ),
@@ -1132,12 +1137,12 @@ const CLAIMED: &[World] = &[
 /// Other pairs of tickets.
 const PAIRED: &[World] = &[
     world(
-        "coordinator/fewer-commits-in-the-second",
+        "coordinator_laws/fewer-commits-in-the-second",
         &[NoLater],
         Rules { counts_paired: |first, second| second <= first, ..RIGHT },
     ),
     world(
-        "coordinator/data-line-missing-in-the-second",
+        "coordinator_laws/data-line-missing-in-the-second",
         &[NoLater],
         Rules {
             line_in_one: |first, second| {
@@ -1147,7 +1152,7 @@ const PAIRED: &[World] = &[
         },
     ),
     world(
-        "coordinator/line-more-in-the-second",
+        "coordinator_laws/line-more-in-the-second",
         &[NoLater],
         Rules {
             line_in_one: |first, second| first.is_none() && right::is_commit_line(second),
@@ -1155,7 +1160,7 @@ const PAIRED: &[World] = &[
         },
     ),
     world(
-        "coordinator/proposals-differ-in-the-second",
+        "coordinator_laws/proposals-differ-in-the-second",
         &[NoLater],
         Rules { proposals_differ: true, ..RIGHT },
     ),

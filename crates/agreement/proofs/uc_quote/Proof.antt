@@ -2,7 +2,7 @@
 use Rattle.agreement.proofs.Codes.{quote-call, refused-call}
 use mathlib.Core.Path.{refl, ap}
 use borrow.Author.Needs.{needs}
-use Rattle.formats.specs.Code.{codeOf}
+use Rattle.answers.specs.Code.{codeOf}
 use Rattle.quotes.specs.Answer.{quoteOfAnswer}
 use Rattle.agreement.proofs.uc_quote.Statement.{statement}
 use Rattle.agreement.proofs.uc_quote.Tie as tie

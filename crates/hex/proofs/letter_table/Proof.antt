@@ -2,7 +2,7 @@
 use mathlib.Core.Path.{refl}
 use Rattle.general.specs.Indexed.{mapFrom}
 use Rattle.general.specs.Table.{tabulate}
-use Rattle.formats.specs.HexText.{digitOf}
+use Rattle.text.specs.HexText.{digitOf}
 use Rattle.hex.specs.Letters.{letterTable}
 use Rattle.hex.proofs.letter_table.Statement.{statement}
 use Rattle.hex.proofs.letter_table.Tie as tie

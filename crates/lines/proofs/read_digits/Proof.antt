@@ -4,8 +4,8 @@ use native.Mathlib.Omega.{arith}
 use mathlib.Core.Path.{_≡_, refl, _∙_}
 use Prim.Native.Nat.{ℕ, _+_, _-_, _<_}
 use lib.ListN.{length, getD}
-use Rattle.formats.specs.Digit.{digitValue}
-use Rattle.formats.proofs.Digit.{digit-entry, value-most, value-below-mark}
+use Rattle.text.specs.Digit.{digitValue}
+use Rattle.text.proofs.Digit.{digit-entry, value-most, value-below-mark}
 use Rattle.lines.specs.Scanned.{Scanned}
 use Rattle.lines.proofs.Scanning.{scanned-none, scanned-more, stops-at-mark, stops-at-end}
 use Rattle.lines.proofs.read_digits.Statement.{statement}

@@ -3,9 +3,9 @@ use mathlib.Core.Path.{_≡_, sym, _∙_}
 use borrow.Author.Needs.{needs}
 use Rattle.tables.specs.InstanceOfTable.{instanceOf, tableOf}
 use Rattle.tables.specs.declared.InstanceTable.{InstanceTable}
-use Rattle.formats.specs.Reading.{accepted}
-use Rattle.formats.specs.Ticket.{readTicket}
-use Rattle.formats.proofs.WellFormed.{accepted-well-formed}
+use Rattle.ticket_format.specs.Reading.{accepted}
+use Rattle.ticket_format.specs.Ticket.{readTicket}
+use Rattle.answers.proofs.WellFormed.{accepted-well-formed}
 use Rattle.ticket.proofs.ReadAs.{read-refused, read-accepted}
 use Rattle.quotes.proofs.Answers.{quote-refused, quote-lines, quote-read}
 use Rattle.quotes.proofs.quote_rest.Statement.{statement}

@@ -45,7 +45,7 @@ use denote.Triple.Walked.{says, needs, Stays, stay-none, stay-none-ref, stay-non
 use denote.Triple.Walked.{Walks, ends-at, walked, walk-meets}
 use denote.Exit.{yes}
 use denote.Triple.Clauses.{ensured, lasts}
-use Rattle.formats.specs.Digit.{digitTable}
+use Rattle.text.specs.Digit.{digitTable}
 use Rattle.lines.specs.Read.{readAt}
 use Rattle.lines.specs.declared.LineRead.{LineRead}
 use Rattle.reader.specs.Advance.{placeBehind, advanceAt}

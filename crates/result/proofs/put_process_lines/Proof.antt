@@ -1,7 +1,7 @@
 -- `result::put_process_lines` meets its contract. Invariant: the lines of the processes passed, followed by what stood there before. Assumes nothing.
 use Prim.Native.Nat.{_+_, _-_, _≤_}
-use Rattle.formats.specs.ResultLine.{lineBy, processLines}
-use Rattle.formats.proofs.ResultLength.{length-line}
+use Rattle.answers.specs.ResultLine.{lineBy, processLines}
+use Rattle.answers.proofs.ResultLength.{length-line}
 use Rattle.result.proofs.ResultLine.{line-of, withLines, length-with, with-none, with-all, with-more}
 use Rattle.result.proofs.put_process_lines.Statement.{statement}
 use Rattle.result.proofs.put_process_lines.Tie as tie

@@ -1,6 +1,6 @@
 -- `result::put_refusal` meets its contract. Assumes nothing.
 use Rattle.general.specs.BigEndian.{bytesOf}
-use Rattle.formats.specs.ResultLine.{refusalLine}
+use Rattle.answers.specs.ResultLine.{refusalLine}
 use Rattle.result.proofs.put_refusal.Statement.{statement}
 use Rattle.result.proofs.put_refusal.Tie as tie
 use mathlib.Core.Path.{_∙_}

@@ -1,7 +1,7 @@
 -- `result::result_size` meets its contract. Assumes nothing.
 use mathlib.Core.Path.{refl}
 use borrow.Author.Needs.{needs}
-use Rattle.formats.specs.ResultLine.{resultSize}
+use Rattle.answers.specs.ResultLine.{resultSize}
 use Rattle.result.proofs.result_size.Statement.{statement}
 use Rattle.result.proofs.result_size.Tie as tie
 

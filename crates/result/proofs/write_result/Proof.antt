@@ -4,7 +4,7 @@ use Rattle.tables.proofs.Places.{length-states-over}
 use Rattle.result.proofs.write_result.Statement.{statement}
 use Rattle.result.proofs.write_result.Tie as tie
 use Rattle.tables.specs.RunOfTable.{runOver}
-use Rattle.formats.specs.ResultLine.{resultSize}
+use Rattle.answers.specs.ResultLine.{resultSize}
 use borrow.Author.Needs.{needs}
 use lib.ListN.{length, length-take, length-drop}
 use mathlib.Core.Path.{_≡_}

@@ -2,9 +2,9 @@
 use mathlib.Core.Path.{_≡_, refl}
 use borrow.Author.Needs.{needs}
 use Rattle.tables.specs.InstanceOfTable.{instanceOf}
-use Rattle.formats.specs.Reading.{accepted}
-use Rattle.formats.specs.Ticket.{readTicket}
-use Rattle.formats.proofs.WellFormed.{accepted-well-formed}
+use Rattle.ticket_format.specs.Reading.{accepted}
+use Rattle.ticket_format.specs.Ticket.{readTicket}
+use Rattle.answers.proofs.WellFormed.{accepted-well-formed}
 use Rattle.ticket.proofs.ReadAs.{read-refused, read-accepted}
 use Rattle.running.proofs.Answers.{settled-in, settle-refused}
 use Rattle.running.proofs.settle.Statement.{statement}

@@ -5,7 +5,7 @@ use borrow.Author.Needs.{needs}
 use lib.ListN.{length}
 use Rattle.tables.specs.InstanceOfTable.{instanceOf}
 use Rattle.coordinator_run.proofs.TableLimits.{rounds-fit}
-use Rattle.formats.specs.ResultLine.{resultSize}
+use Rattle.answers.specs.ResultLine.{resultSize}
 use Rattle.running.proofs.Answers.{run-written}
 use Rattle.running.proofs.write_run.Statement.{statement}
 use Rattle.running.proofs.write_run.Tie as tie

@@ -1,5 +1,5 @@
 -- `simulate::answer` meets its contract: its buffer has room for the result of 64 processes. Assumes nothing.
-use Rattle.formats.specs.ResultLine.{resultSize}
+use Rattle.answers.specs.ResultLine.{resultSize}
 use Rattle.simulate.proofs.answer.Statement.{statement}
 use Rattle.simulate.proofs.answer.Tie as tie
 use borrow.Author.Needs.{needs}

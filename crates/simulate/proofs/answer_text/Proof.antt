@@ -1,5 +1,5 @@
 -- `simulate::answer_text` meets its contract: each answer of running is a law of Answered. Assumes nothing.
-use Rattle.formats.specs.ResultLine.{resultSize}
+use Rattle.answers.specs.ResultLine.{resultSize}
 use Rattle.running.proofs.Answers.{written-fits}
 use Rattle.simulate.proofs.Answered.{front-written, front-refused}
 use Rattle.simulate.proofs.answer_text.Statement.{statement}

@@ -5,9 +5,9 @@ use Prim.Native.Nat.{ℕ}
 use borrow.Author.Needs.{needs}
 use denote.Enum.Declared.{tagOf}
 use types.Run.{OneOf, miss}
-use Rattle.formats.specs.declared.Place.{Place}
-use Rattle.formats.specs.declared.Place.the-variants.{Proposals, Failures, Ended}
-use Rattle.formats.proofs.Place.{the-type}
+use Rattle.ticket_format.specs.declared.Place.{Place}
+use Rattle.ticket_format.specs.declared.Place.the-variants.{Proposals, Failures, Ended}
+use Rattle.ticket_format.proofs.Place.{the-type}
 use Rattle.ticket.specs.Progress.{endAnswer}
 use Rattle.ticket.specs.declared.TicketAnswer.{TicketAnswer}
 use Rattle.ticket.proofs.at_end.Statement.{statement}

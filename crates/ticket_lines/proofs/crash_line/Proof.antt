@@ -3,7 +3,7 @@ use mathlib.Core.Path.{_∙_, sym}
 use native.Mathlib.Omega.{arith}
 use borrow.Author.Tests.{not-false}
 use borrow.Author.Needs.{needs}
-use Rattle.formats.proofs.CrashAllowed.{crash-placed}
+use Rattle.ticket_format.proofs.CrashPlaced.{crash-placed}
 use Rattle.ticket_lines.proofs.Answers.{crash-many, crash-unplaced, crash-unsuited, crash-next}
 use Rattle.ticket_lines.proofs.crash_line.Statement.{statement}
 use Rattle.ticket_lines.proofs.crash_line.Tie as tie

@@ -1,0 +1,11 @@
+pub mod CrashAllowed
+pub mod WellFormed
+pub mod AnswerCases
+pub mod ReasonCases
+pub mod Marked
+pub mod Worked
+pub mod LetteringCases
+pub mod InCapitals
+pub mod ResultLength
+pub mod ReasonsLength
+pub mod CodesApart

@@ -1,0 +1,14 @@
+pub mod ResultLine
+pub mod Running
+pub mod Settle
+pub mod Reason
+pub mod Code
+pub mod CodesApart
+pub mod Table
+pub mod FurtherRuns
+pub mod LetterRuns
+pub mod LetteringCases
+pub mod AnswerCases
+pub mod ReasonCases
+pub mod Marked
+pub mod Worked

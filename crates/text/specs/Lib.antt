@@ -1,0 +1,6 @@
+pub mod Digit
+pub mod Capitals
+pub mod Line
+pub mod HexText
+pub mod TextOf
+pub mod ByteCases

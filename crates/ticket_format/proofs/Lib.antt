@@ -1,0 +1,10 @@
+pub mod LineCases
+pub mod Taken
+pub mod Passing
+pub mod Keeping
+pub mod RefusalRange
+pub mod FirstWrong
+pub mod ReadingCases
+pub mod Described
+pub mod ReadCapitals
+pub mod CrashPlaced

@@ -1,0 +1,10 @@
+pub mod FailureLine
+pub mod LineVerdict
+pub mod Says
+pub mod Accept
+pub mod Reading
+pub mod Ticket
+pub mod FirstWrong
+pub mod Openings
+pub mod ReadingCases
+pub mod Described
