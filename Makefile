@@ -17,7 +17,8 @@
 # make wrong-worlds           wrong rules of the protocol, and a counterexample to each claim that fails under them
 # make unused                 list definitions, lemmas and imports that nothing uses, and promises that no must-fail edit serves
 # make wrong-programs         the wrong programs beside the gate: of the crates that changed since theirs were refused, CRATES='a b', or ALL=1
-# make costs                  instructions of every exported call on stored tickets beside the stored counts; STORE=1 stores them. It needs valgrind
+# make costs                  instructions of every exported call on stored tickets: it fails where one rose by more than 2 %; STORE=1 stores the counts.
+#                             It needs valgrind
 # make compare                the proved library against the second implementation: SEED=1 COUNT=1000000
 # make bench                  speed of the proved library beside the second implementation, which goes message by message
 # make fuzz                   a coverage-guided fuzzer over the C interface: SECONDS=60. It needs clang with its fuzzer
