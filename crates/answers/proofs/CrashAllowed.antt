@@ -36,8 +36,7 @@ module _ (n t last : ℕ) (l : FailureLine) (placed : placesCrash n t last l ≡
       → FaultAllowed n t (l .process) (faultBy l)
   unfolding suitsStep FaultAllowedBy pointFrom
   crash-allowed e =
-      let at = crash-placed n t last l placed in
-      (
+      let at = crash-placed n t last l placed in (
         at .round-from-1,
         at .round-to-last,
         step-allowed n (l .process) (l .round) (l .reached) (l .count) (eqb (l .step) 0) (eqb (l .step) 1) e (at .process-to-n),

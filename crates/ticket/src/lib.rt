@@ -1,9 +1,9 @@
 // Reading a ticket (document 01, 'The ticket'): from any bytes to an instance or a refusal.
+use lines::LineRead;
+use tables::InstanceTable;
 use ticket_format::HeaderAnswer;
 use ticket_format::LineAnswer;
 use ticket_format::Place;
-use lines::LineRead;
-use tables::InstanceTable;
 ghost use mathlib.Core.Path.{_≡_};
 ghost use Rattle.tables.specs.InstanceOfTable.{emptyTable, tableOf};
 ghost use Rattle.ticket_format.specs.Ticket.{readTicket};
