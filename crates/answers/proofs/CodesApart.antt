@@ -14,7 +14,7 @@ use Rattle.coordinator_laws.proofs.FirstSettling.{first-settling}
 use Rattle.coordinator_laws.proofs.TrueReasons.{reason-within}
 use Rattle.ticket_format.specs.Reading.{Reading, accepted, refused}
 use Rattle.ticket_format.specs.Ticket.{readTicket}
-use Rattle.answers.proofs.WellFormed.{accepted-well-formed}
+use Rattle.ticket_laws.proofs.WellFormed.{accepted-well-formed}
 use Rattle.ticket_format.proofs.RefusalRange.{RefusedBy, lastRefused, ticket-refused}
 use Rattle.answers.specs.ResultLine.{resultText, resultSize}
 use Rattle.answers.proofs.ResultLength.{length-text}

@@ -1,5 +1,3 @@
-pub mod CrashAllowed
-pub mod WellFormed
 pub mod AnswerCases
 pub mod ReasonCases
 pub mod Marked

@@ -1,15 +1,11 @@
 -- The limits of an instance's size: what `withinLimits` says of the number of processes and of crashes, and which numbers pass it. Assumes nothing.
 use mathlib.Core.Path.{_≡_}
 use mathlib.Core.Bool.{true}
-use Prim.Native.Nat.{ℕ, _≤_, _<_}
+use Prim.Native.Nat.{ℕ}
 use borrow.Author.Tests.{ltb-true, leb-true, le-leb, lt-ltb}
 use Rattle.general.proofs.Tests.{both}
 use Rattle.consensus.specs.Instance.{withinLimits}
-
-pub record Limits (n t : ℕ) : Type 0 where
-  pub some-process : 1 ≤ n
-  pub at-most-64 : n ≤ 64
-  pub fewer-crashes : t < n
+use Rattle.consensus.specs.Limits.{Limits}
 
 pub limits-hold : (n t : ℕ) → withinLimits n t ≡ true → Limits n t
 unfolding withinLimits

@@ -1,4 +1,5 @@
 pub mod Instance
+pub mod Limits
 pub mod State
 pub mod CrashCount
 pub mod WellFormed

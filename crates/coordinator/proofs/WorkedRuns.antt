@@ -4,7 +4,7 @@ use mathlib.Core.Path.{refl}
 use lib.Count.{onesIn}
 use Rattle.general.specs.Bits.{member, ones64, setOf}
 use Rattle.general.specs.Indexed.{mapFrom, countFrom}
-use Rattle.general.specs.Counts.{addAt}
+use Rattle.general.specs.Counts.{addAt, sumTo}
 use Rattle.general.specs.Search.{lowestFrom}
 use Rattle.general.specs.Table.{tabulate}
 use Rattle.coordinator.specs.Message.{arriving, getsData, getsCommit}
@@ -25,10 +25,10 @@ use Rattle.coordinator.specs.Reason.{stateAtStart, heardIn, reasonHearin
 use Rattle.consensus.specs.FourProcesses.{four, firstCrashes, afterOneCommit, dataToTheLast, idleBesides, idleAlone}
 use Rattle.consensus.specs.ClaimCases.{case1Ends, case8Ends}
 use Rattle.coordinator.specs.WorkedTable.{workedRuns}
-use Rattle.coordinator.specs.WorkedRuns.{setsIn, qualifyingTo, qualifyingRounds, worked, AsWorked, WorkedRuns}
+use Rattle.coordinator.specs.WorkedRuns.{sentInRound, allSent, theorem2, setsIn, qualifyingTo, qualifyingRounds, worked, AsWorked, WorkedRuns}
 
 pub worked-runs : WorkedRuns
-unfolding setsIn dataSetAt commitSetAt sentSet onesInCommon onesIn ones64 setOf four firstCrashes afterOneCommit dataToTheLast idleBesides idleAlone case1Ends case8Ends countFrom workedRuns AsWorked worked qualifyingTo qualifyingRounds member mapFrom addAt sentAfter dataBy commitsBy arriving getsData getsCommit faultOf sends receives amongFirst reachAt reachIn reach stateOf crashesIn sentBy received afterOutcome after statesAfter isUndecided anyUndecided speaks carries carriedIn dataIn commitsIn isIdle countsAsCrash crashCount initial withRound runTo runOf crashesOf valuesHeld allAre oneValue qualifies lowestFrom firstSettling latestOf endOf faultLeft withoutIdle tabulate stateAtStart heardIn reasonHearing reasonFrom reasonOf reasonsIn reasonsTo reasonsOf
+unfolding sumTo sentInRound allSent theorem2 setsIn dataSetAt commitSetAt sentSet onesInCommon onesIn ones64 setOf four firstCrashes afterOneCommit dataToTheLast idleBesides idleAlone case1Ends case8Ends countFrom workedRuns AsWorked worked qualifyingTo qualifyingRounds member mapFrom addAt sentAfter dataBy commitsBy arriving getsData getsCommit faultOf sends receives amongFirst reachAt reachIn reach stateOf crashesIn sentBy received afterOutcome after statesAfter isUndecided anyUndecided speaks carries carriedIn dataIn commitsIn isIdle countsAsCrash crashCount initial withRound runTo runOf crashesOf valuesHeld allAre oneValue qualifies lowestFrom firstSettling latestOf endOf faultLeft withoutIdle tabulate stateAtStart heardIn reasonHearing reasonFrom reasonOf reasonsIn reasonsTo reasonsOf
 worked-runs =
     record {
       number = refl;
@@ -39,4 +39,5 @@ worked-runs =
       commitsAtStep1 = refl;
       commitsAtStep2 = refl;
       dataOfCorrect = refl;
+      sentInCase9 = refl;
     }

@@ -11,9 +11,18 @@ use Rattle.general.proofs.Tests.{both}
 use Rattle.consensus.specs.Instance.{crashes, duringCommits}
 use Rattle.ticket_format.specs.FailureLine.{faultBy}
 use Rattle.ticket_format.specs.Says.{isKind, failureLine}
-use Rattle.answers.proofs.CrashAllowed.{commit-fault}
+use Rattle.ticket_laws.proofs.CrashAllowed.{commit-fault}
 use Rattle.ticket_format.proofs.LineCases.{CrashPasses}
-use Rattle.demands.specs.PairedTexts.{CommitLine}
+use Rattle.ticket_laws.specs.FirstWrong.{kindIn, stepIn}
+
+-- A failure line of the commit step.
+pub record CommitLine (b : List ℕ) : Type 0 where
+  pub kind : getD b 0 0 ≡ 3
+  pub step : getD b 3 0 ≡ 2
+
+pub commit-line : (b : List ℕ) → kindIn b ≡ 3 → stepIn b ≡ 2 → CommitLine b
+unfolding kindIn stepIn
+commit-line b kind step = record { kind = kind; step = step }
 
 -- It is of kind 03, and so of no other.
 commit-kind : (b : List ℕ) → CommitLine b → (kind size : ℕ) → isKind kind size b ≡ true → kind ≡ 3

@@ -13,10 +13,10 @@ use Rattle.ticket_format.specs.Ticket.{readTicket}
 use Rattle.answers.specs.ResultLine.{resultText, resultSize}
 use Rattle.answers.specs.Running.{resultIn, running, bufferAfter}
 use Rattle.answers.specs.Code.{codeOf, refusalsFrom, RunCall}
-use Rattle.answers.proofs.WellFormed.{accepted-well-formed}
+use Rattle.ticket_laws.proofs.WellFormed.{accepted-well-formed}
 use Rattle.ticket_format.proofs.RefusalRange.{RefusedBy, lastRefused, ticket-refused}
 use Rattle.answers.proofs.ResultLength.{length-text}
-use Rattle.ticket_format.proofs.FirstWrong.{refused-wrong}
+use Rattle.ticket_laws.proofs.RefusedTexts.{refused-wrong}
 use Rattle.demands.specs.Demand1.{wrong, tooShort, RunAnswered, result, refusal}
 
 -- The three answers of running.

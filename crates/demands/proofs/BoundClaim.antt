@@ -6,7 +6,7 @@ use Prim.Native.Nat.{ℕ}
 use Rattle.consensus.specs.Instance.{Instance}
 use Rattle.coordinator_laws.proofs.Bound.{speaker-bound}
 use Rattle.coordinator_laws.proofs.CountsBySets.{counts-by-sets}
-use Rattle.answers.proofs.WellFormed.{accepted-well-formed}
+use Rattle.ticket_laws.proofs.WellFormed.{accepted-well-formed}
 use Rattle.demands.specs.OutputSays.{Counts, countsSaid, countsOf}
 use Rattle.demands.specs.Written.{Wrote}
 use Rattle.demands.specs.BoundClaim.{CountsBounded, BoundClaim}

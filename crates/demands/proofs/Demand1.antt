@@ -9,7 +9,7 @@ use Rattle.general.specs.BigEndian.{bytesOf}
 use Rattle.general.proofs.Bytes.{Bytes, bytes-each, bytes-append}
 use Rattle.general.proofs.BigEndian.{bytes-of-number, number-bytes}
 use Rattle.consensus.specs.Instance.{Instance}
-use Rattle.ticket_format.specs.FirstWrong.{FirstWrong}
+use Rattle.ticket_laws.specs.FirstWrong.{FirstWrong}
 use Rattle.ticket_format.specs.Ticket.{readTicket}
 use Rattle.text.specs.Line.{Line, noLine, linesOf}
 use Rattle.ticket_format.specs.Says.{isKind}
@@ -24,9 +24,12 @@ use Rattle.coordinator_laws.proofs.Counts.{counts-fit}
 use Rattle.coordinator_laws.proofs.FirstSettling.{first-settling}
 use Rattle.answers.specs.Settle.{settlingIn, settling}
 use Rattle.answers.specs.Code.{codeOf, numberCode}
-use Rattle.answers.proofs.WellFormed.{accepted-well-formed}
-use Rattle.ticket_format.proofs.Passing.{refused-accepted}
-use Rattle.ticket_format.proofs.FirstWrong.{wrong-refused, refused-wrong}
+use Rattle.ticket_laws.proofs.WellFormed.{accepted-well-formed}
+use Rattle.ticket_laws.proofs.RefusedTexts.{wrong-refused, refused-wrong, refused-texts}
+use Rattle.ticket_laws.proofs.AcceptedTexts.{accepted-texts}
+use Rattle.ticket_laws.proofs.TextsJudged.{texts-judged}
+use Rattle.text.proofs.Split.{lines-split}
+use Rattle.part_laws.proofs.PartCalls.{part-calls}
 use Rattle.part_format.proofs.Refused.{refused-change-nothing, speak-answers-apart}
 use Rattle.demands.specs.Demand1.{SettleAnswered, round, refusal, TicketsAnswered, Demand1}
 use Rattle.demands.proofs.Answered.{unread-numbered, run-answered}
@@ -41,12 +44,6 @@ settle-answered text code e = by-reading (readTicket text) refl e
         round x read coded (omega (arith, coded, first-settling x formed .within .1, counts-fit x formed .rounds))
     by-reading (refused number line) read coded =
         refusal number line (refused-wrong text number line read) coded (omega (arith, coded, unread-numbered text number line read))
-
-same-refusal : (number line number′ line′ : ℕ) → _≡_ {A = Reading Instance} (refused number line) (refused number′ line′) → (number ≡ number′) × (line ≡ line′)
-same-refusal number line number′ line′ e =
-    let same : number ≡ number′ = cc in
-    let place : line ≡ line′ = cc in
-    (same, place)
 
 -- What the program writes for a refused text, and what it says.
 program-refuses : (text : List ℕ) (number line : ℕ) → FirstWrong text number line → programWrites text ≡ refusalLine number line
@@ -78,10 +75,17 @@ tickets-answered =
       run = run-answered;
       settle = settle-answered;
       program = λ text number line w. (program-refuses text number line w, program-says text number line w);
-      onlyOne = λ text number line number′ line′ w w′.
-          same-refusal number line number′ line′ (sym (wrong-refused text number line w) ∙ wrong-refused text number′ line′ w′);
-      notBoth = λ text x number line read w. refused-accepted number line x (sym (wrong-refused text number line w) ∙ read);
     }
 
 pub demand-1 : Demand1
-demand-1 = record { tickets = tickets-answered; parts = refused-change-nothing; speaking = speak-answers-apart }
+demand-1 =
+    record {
+      tickets = tickets-answered;
+      parts = refused-change-nothing;
+      speaking = speak-answers-apart;
+      texts = texts-judged;
+      accepts = accepted-texts;
+      refuses = refused-texts;
+      lines = lines-split;
+      calls = part-calls;
+    }

@@ -1,5 +1,5 @@
 -- Demand 2: of the bytes of every result, and of separate parts. Assumes nothing.
-use Rattle.answers.proofs.WellFormed.{accepted-well-formed}
+use Rattle.ticket_laws.proofs.WellFormed.{accepted-well-formed}
 use Rattle.demands.specs.Demand2.{Demand2}
 use Rattle.demands.proofs.EndsFit.{result-says, result-sent}
 use Rattle.demands.proofs.Written.{writes-results}

@@ -5,14 +5,14 @@ use Prim.Native.Nat.{ℕ, suc}
 use Rattle.consensus.specs.Instance.{Instance}
 use Rattle.consensus.specs.State.{State}
 use Rattle.coordinator.specs.Run.{crashesOf, endOf, latestOf}
-use Rattle.consensus.specs.Consensus.{UniformConsensus, CountsCrashes}
+use Rattle.consensus.specs.Consensus.{UniformConsensus, CountsCrashes, endsOf}
 use Rattle.consensus.specs.CrashCount.{crashCount, crashedCount}
 use Rattle.coordinator_laws.proofs.CrashCount.{crashes-are-crashed}
 use Rattle.coordinator_laws.proofs.Consensus.{uniform-consensus}
 use Rattle.coordinator_laws.proofs.Pair.{no-later}
 use Rattle.consensus.proofs.SameEnds.{SameEnds, consensus-same, no-later-same}
 use Rattle.coordinator_laws.proofs.Ends.{ends-in-order}
-use Rattle.answers.proofs.WellFormed.{accepted-well-formed}
+use Rattle.ticket_laws.proofs.WellFormed.{accepted-well-formed}
 use Rattle.demands.specs.OutputSays.{Counts, OutputSays, countsOf}
 use Rattle.demands.specs.Written.{Wrote}
 use Rattle.demands.specs.Demand3.{RoundsClaim, InstancesClaim, OutputClaim, Demand3}
@@ -58,11 +58,17 @@ module _ (text : List ℕ) (x : Instance) (out : List ℕ) (ends : ℕ → State
   unfolding CountsCrashes crashesOf
   crashes-said = f-said ∙ ap (crashCount (x .pattern)) (sym (ends-in-order x (accepted-well-formed text x (wrote .read)) ends ends-said))
 
+  crashed-said : counts .crashes ≡ crashedCount (endsOf x ends)
+  crashed-said =
+      let formed = accepted-well-formed text x (wrote .read) in
+      f-said ∙ crashes-are-crashed x formed ∙ ap crashedCount (sym (ends-in-order x formed ends ends-said))
+
 output-claim : OutputClaim
 output-claim =
     record {
       consensus = consensus-said;
       crashes = crashes-said;
+      crashed = crashed-said;
       noLater = λ a b x y out out′ ends ends′ counts counts′ wrote wrote′ says says′ paired.
           no-later-same x y (endOf x) ends (endOf y) ends′ (ends-said a x out ends counts wrote says) (ends-said b y out′ ends′ counts′ wrote′ says′)
           (rounds-claim .noLater a b x y (wrote .read) (wrote′ .read) paired);

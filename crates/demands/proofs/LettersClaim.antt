@@ -16,7 +16,7 @@ use Rattle.answers.specs.Reason.{reason, reasons}
 use Rattle.answers.specs.Code.{sizeCode, numberCode, WritingCall}
 use Rattle.ticket_format.proofs.ReadCapitals.{read-capitals, read-alike}
 use Rattle.answers.proofs.InCapitals.{refusal-in-capitals}
-use Rattle.answers.proofs.WellFormed.{accepted-well-formed}
+use Rattle.ticket_laws.proofs.WellFormed.{accepted-well-formed}
 use Rattle.answers.proofs.ResultLength.{length-text}
 use Rattle.ticket_format.proofs.RefusalRange.{RefusedBy, lastRefused, ticket-refused}
 use Rattle.running.specs.Answer.{answerOf, Writing}
@@ -92,6 +92,23 @@ module _ (answers answers′ : (room : ℕ) → Reading (List ℕ)) (same : (roo
       let alike = same (length before) in
       (made-alike sizeCode _ _ alike _ _ (r .answered) (s .answered), made-alike (λ m. bufferAfter m before) _ _ alike _ _ (r .buffer) (s .buffer))
 
+-- So with running and settling.
+pub ran-alike : (a b : List ℕ) → ((room : ℕ) → running a room ≡ running b room) → RunAlike a b
+unfolding programWrites
+ran-alike a b same =
+    record {
+      ran = written-alike (running a) (running b) same;
+      called = called-alike (running a) (running b) same;
+      program = ap written (same (resultSize 64));
+    }
+
+pub settle-alike : (a b : List ℕ) → settling a ≡ settling b → SettledAlike a b
+settle-alike a b same =
+    record {
+      settled = λ answer answer′ e g. same-answer answer answer′ (e ∙ same ∙ sym g);
+      called = λ code code′ e g. e ∙ ap numberCode same ∙ sym g;
+    }
+
 -- The number of a ticket's refusal is a byte.
 refusal-byte : (text : List ℕ) (number line : ℕ) → readTicket text ≡ refused number line → number < 256
 unfolding RefusedBy
@@ -109,13 +126,7 @@ module _ (a b : List ℕ) (same : EqualUpToCase a b) where
   running-alike room = rw alike refl
 
   run-alike : RunAlike a b
-  unfolding programWrites
-  run-alike =
-      record {
-        ran = written-alike (running a) (running b) running-alike;
-        called = called-alike (running a) (running b) running-alike;
-        program = ap written (running-alike (resultSize 64));
-      }
+  run-alike = ran-alike a b running-alike
 
   -- What running one text meets, running the other does.
   pub run-met-alike : (size : ℕ) → RunMet a size → RunMet b size
@@ -125,10 +136,8 @@ module _ (a b : List ℕ) (same : EqualUpToCase a b) where
         before = met .before;
         after = met .after;
         ran = record { answered = rw e at (met .ran .answered); buffer = rw e at (met .ran .buffer) };
-        called = record {
-          call = record { answered = rw e at (met .called .call .answered); buffer = rw e at (met .called .call .buffer) };
-          small = met .called .small;
-        };
+        called = record { answered = rw e at (met .called .answered); buffer = rw e at (met .called .buffer) };
+        small = met .small;
       }
 
   settling-alike : settling a ≡ settling b
@@ -136,11 +145,7 @@ module _ (a b : List ℕ) (same : EqualUpToCase a b) where
   settling-alike = rw alike refl
 
   settled-alike : SettledAlike a b
-  settled-alike =
-      record {
-        settled = λ answer answer′ e g. same-answer answer answer′ (e ∙ settling-alike ∙ sym g);
-        called = λ code code′ e g. e ∙ ap numberCode settling-alike ∙ sym g;
-      }
+  settled-alike = settle-alike a b settling-alike
 
   reason-alike : (p r : ℕ) → reason a p r ≡ reason b p r
   unfolding reason

@@ -13,11 +13,12 @@ pub mod Demand3
 pub mod BoundClaim
 pub mod SenderClaim
 pub mod RoomClaim
-pub mod IdleClaim
 pub mod SettlingClaim
 pub mod ReasonClaim
 pub mod PriceAnswered
 pub mod QuoteClaim
 pub mod ResultInCapitals
 pub mod LettersClaim
+pub mod IdleClaim
 pub mod Witnesses
+pub mod Used

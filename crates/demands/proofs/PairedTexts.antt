@@ -22,8 +22,9 @@ use Rattle.ticket_format.proofs.CrashPlaced.{Placed, crash-placed}
 use Rattle.ticket_format.proofs.Passing.{refused-accepted, refuse-next, proceeds}
 use Rattle.ticket_format.proofs.LineCases.{CrashPasses}
 use Rattle.ticket_format.proofs.Taken.{HeaderTaken, takenHeader, header-taken, Taken, takenProposal, takenCrash, takenEnd, taken}
-use Rattle.demands.specs.PairedTexts.{CommitLine, PairedLines, noLines, sameLine, countNoLower, missingLine, PairedTexts}
-use Rattle.demands.proofs.AcceptedLine.{not-a-header, not-a-proposal, not-the-end, stated-fault}
+use Rattle.ticket_laws.specs.FirstWrong.{stationIn, countIn}
+use Rattle.demands.specs.PairedTexts.{PairedLines, noLines, sameLine, countNoLower, missingLine, PairedTexts}
+use Rattle.demands.proofs.AcceptedLine.{CommitLine, commit-line, not-a-header, not-a-proposal, not-the-end, stated-fault}
 use Rattle.demands.proofs.PairedFaults.{PairedSoFar, so-far-paired, so-far-both, so-far-first}
 
 -- The stages of both texts.
@@ -149,20 +150,20 @@ end-step s s′ k k′ x y (bothEnded {x = z} {y = w} paired) e e′ =
 -- Both texts from their stages on.
 readings-paired : {l m : List Line} (s s′ : Stage) (k k′ : ℕ) (x y : Instance) → PairedLines l m → Alongside s s′
     → readFrom accept atEnd s k l ≡ accepted x → readFrom accept atEnd s′ k′ m ≡ accepted y → Paired x y
-unfolding readFrom
+unfolding readFrom stationIn countIn
 readings-paired s s′ k k′ x y noLines along e e′ = end-step s s′ k k′ x y along e e′
 readings-paired s s′ k k′ x y (sameLine {line = noLine} rest) along e e′ = absurd (refused-accepted 2 k x e)
 readings-paired s s′ k k′ x y (sameLine {line = bytes b} rest) along e e′ =
     let (u, step, more) = proceeds (accept s b) k _ x e in
     let (u′, step′, more′) = proceeds (accept s′ b) k′ _ y e′ in
     readings-paired u u′ (suc k) (suc k′) x y rest (same-step s s′ b u u′ along step step′) more more′
-readings-paired s s′ k k′ x y (countNoLower {b} {c} line line′ station count rest) along e e′ =
+readings-paired s s′ k k′ x y (countNoLower {b} {c} kind step-2 kind′ step-2′ station count rest) along e e′ =
     let (u, step, more) = proceeds (accept s b) k _ x e in
     let (u′, step′, more′) = proceeds (accept s′ c) k′ _ y e′ in
-    readings-paired u u′ (suc k) (suc k′) x y rest (commit-step s s′ b c u u′ line line′ station count along step step′) more more′
-readings-paired s s′ k k′ x y (missingLine {b} line rest) along e e′ =
+    readings-paired u u′ (suc k) (suc k′) x y rest (commit-step s s′ b c u u′ (commit-line b kind step-2) (commit-line c kind′ step-2′) station count along step step′) more more′
+readings-paired s s′ k k′ x y (missingLine {b} kind step-2 rest) along e e′ =
     let (u, step, more) = proceeds (accept s b) k _ x e in
-    readings-paired u s′ (suc k) k′ x y rest (missing-step s s′ b u line along step) more e′
+    readings-paired u s′ (suc k) k′ x y rest (missing-step s s′ b u (commit-line b kind step-2) along step) more e′
 
 not-too-long : (long : Bool) (reading : Reading Instance) (x : Instance) → cond long (refused 1 0) reading ≡ accepted x → reading ≡ accepted x
 not-too-long true reading x e = absurd (refused-accepted 1 0 x e)

@@ -1,6 +1,6 @@
 -- Demand 2, second half, and demand 3 of separate parts, of every accepted text (`parts-claim`): an accepted text states a well-formed instance.
 -- Assumes nothing.
-use Rattle.answers.proofs.WellFormed.{accepted-well-formed}
+use Rattle.ticket_laws.proofs.WellFormed.{accepted-well-formed}
 use Rattle.part_host.proofs.Calls.{output-yielded}
 use Rattle.part_host.proofs.DecideAlike.{parts-decide-alike, none-refused}
 use Rattle.part_host.proofs.PartsConsensus.{parts-consensus, parts-no-later}

@@ -19,8 +19,8 @@ use Rattle.coordinator_laws.proofs.Settled.{none-ends-undecided}
 use Rattle.ticket_format.specs.Reading.{Reading, accepted, refused}
 use Rattle.ticket_format.specs.Ticket.{readTicket}
 use Rattle.answers.specs.Code.{codeOf}
-use Rattle.answers.proofs.WellFormed.{accepted-well-formed}
-use Rattle.ticket_format.proofs.FirstWrong.{refused-wrong}
+use Rattle.ticket_laws.proofs.WellFormed.{accepted-well-formed}
+use Rattle.ticket_laws.proofs.RefusedTexts.{refused-wrong}
 use Rattle.pricing.specs.Price.{priceOf}
 use Rattle.pricing.specs.Quote.{linesRefusal, quoteBy}
 use Rattle.pricing.specs.PricedLines.{Priced, Unpriced}

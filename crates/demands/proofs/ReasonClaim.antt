@@ -20,9 +20,9 @@ use Rattle.ticket_format.specs.Ticket.{readTicket}
 use Rattle.answers.specs.Running.{bufferAfter}
 use Rattle.answers.specs.Reason.{withinRun, reasonIn, reason, reasonsSize, reasonsWithin, reasons}
 use Rattle.answers.specs.Code.{codeOf, refusalsFrom, sizeCode, numberCode, ReasonsCall}
-use Rattle.answers.proofs.WellFormed.{accepted-well-formed}
+use Rattle.ticket_laws.proofs.WellFormed.{accepted-well-formed}
 use Rattle.answers.proofs.ReasonsLength.{length-reasons, reasons-fit, reason-at, reason-inside}
-use Rattle.ticket_format.proofs.FirstWrong.{refused-wrong}
+use Rattle.ticket_laws.proofs.RefusedTexts.{refused-wrong}
 use Rattle.running.specs.Answer.{answerOf}
 use Rattle.running.specs.declared.RunAnswer.the-variants.{Written}
 use Rattle.reasons.specs.Answer.{reasonOfAnswer, Explained}

@@ -13,7 +13,7 @@ use Rattle.ticket_format.specs.Reading.{accepted}
 use Rattle.ticket_format.specs.Ticket.{readTicket}
 use Rattle.answers.specs.ResultLine.{processLine, lastLine, joined, lineBy, processLines, resultLines, resultText}
 use Rattle.answers.proofs.InCapitals.{capitals-append, line-in-capitals}
-use Rattle.answers.proofs.WellFormed.{accepted-well-formed}
+use Rattle.ticket_laws.proofs.WellFormed.{accepted-well-formed}
 use Rattle.demands.proofs.ResultReadBack.{Fits, AllFit, RunFits, lineBytes, process-line-bytes, lastBytes, last-line-bytes}
 use Rattle.demands.proofs.EndsFit.{run-fits}
 

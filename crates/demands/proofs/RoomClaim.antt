@@ -12,7 +12,7 @@ use Rattle.answers.specs.Running.{resultIn, running, bufferAfter}
 use Rattle.answers.specs.Code.{codeOf, refusalCode, RunCall}
 use Rattle.answers.proofs.AnswerCases.{result-sizes}
 use Rattle.answers.proofs.ResultLength.{length-text}
-use Rattle.answers.proofs.WellFormed.{accepted-well-formed}
+use Rattle.ticket_laws.proofs.WellFormed.{accepted-well-formed}
 use Rattle.running.specs.Answer.{answerOf, Ran}
 use Rattle.running.specs.declared.RunAnswer.{RunAnswer}
 use Rattle.running.specs.declared.RunAnswer.the-variants.{Written, Refused}

@@ -6,7 +6,7 @@ use Rattle.consensus.specs.Instance.{Instance}
 use Rattle.consensus.specs.Consensus.{IsProcess}
 use Rattle.ticket_format.specs.Reading.{accepted}
 use Rattle.ticket_format.specs.Ticket.{readTicket}
-use Rattle.answers.proofs.WellFormed.{accepted-well-formed}
+use Rattle.ticket_laws.proofs.WellFormed.{accepted-well-formed}
 use Rattle.part_host.specs.Part.{partOf}
 use Rattle.part_schedules.specs.Steps.{Hosted, Step, unstarted, play}
 use Rattle.part_schedules.specs.Schedule.{Schedule, scheduleSteps, played}

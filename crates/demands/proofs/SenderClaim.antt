@@ -8,7 +8,7 @@ use Rattle.consensus.specs.Instance.{Instance}
 use Rattle.consensus.specs.Consensus.{IsProcess}
 use Rattle.coordinator_laws.specs.MessagesBySender.{MessagesBySender}
 use Rattle.coordinator_laws.proofs.MessagesBySender.{messages-by-sender}
-use Rattle.answers.proofs.WellFormed.{accepted-well-formed}
+use Rattle.ticket_laws.proofs.WellFormed.{accepted-well-formed}
 use Rattle.demands.specs.OutputSays.{Sent, Counts, countsOf, sentOf}
 use Rattle.demands.specs.Written.{Wrote}
 use Rattle.demands.specs.SenderClaim.{MessagesSaid, AddsUp, sentInRound, SenderClaim}

@@ -13,7 +13,7 @@ use Rattle.ticket_format.specs.Reading.{accepted}
 use Rattle.ticket_format.specs.Ticket.{readTicket}
 use Rattle.answers.specs.Settle.{settlingIn, settling}
 use Rattle.answers.specs.Code.{codeOf, numberCode}
-use Rattle.answers.proofs.WellFormed.{accepted-well-formed}
+use Rattle.ticket_laws.proofs.WellFormed.{accepted-well-formed}
 use Rattle.running.specs.Settling.{settlingOf}
 use Rattle.running.specs.declared.SettleAnswer.{SettleAnswer}
 use Rattle.running.specs.declared.SettleAnswer.the-variants.{Round}

@@ -53,7 +53,8 @@ use Rattle.running.specs.Settling.{settlingOf}
 use Rattle.reasons.specs.Answer.{reasonOfAnswer}
 use Rattle.demands.specs.OutputSays.{isProcessLine, sentIn, sentFrom, lineAt, sentSaid, countsOf}
 use Rattle.demands.specs.Written.{Wrote}
-use Rattle.demands.specs.PairedTexts.{CommitLine, PairedTexts, noLines, sameLine, countNoLower, missingLine}
+use Rattle.ticket_laws.specs.FirstWrong.{kindIn, stationIn, stepIn, countIn}
+use Rattle.demands.specs.PairedTexts.{PairedTexts, noLines, sameLine, countNoLower, missingLine}
 use Rattle.general.proofs.Bytes.{Bytes, bytes-each}
 use Rattle.part_format.specs.PartState.{stateBytes, stateFrom, identityValid, roundValid, fieldsValid, stateValid, stateRefusal, isOwnRound}
 use Rattle.part_format.specs.Frame.{dataFrame, commitFrame, framesOf, isDataFrame, isCommitFrame, messagesFrom, heardBy}
@@ -97,17 +98,14 @@ paired-with fault fault′ line = record { processes = refl; resilience = refl; 
 abbrev commitLine : ℕ → List ℕ
 commitLine count = 3 ∷ 1 ∷ 1 ∷ 2 ∷ 0 ∷ 0 ∷ 0 ∷ 0 ∷ 0 ∷ 0 ∷ 0 ∷ 0 ∷ count ∷ []
 
-is-commit-line : (count : ℕ) → CommitLine (commitLine count)
-is-commit-line count = omega arith
-
 paired-commits : PairedTexts crashText moreCommitsText
-unfolding PairedTexts crashText moreCommitsText noCrashText opening textOf ascii digitValue isDigit scan closed unclosed linesFrom linesOf
+unfolding kindIn stationIn stepIn countIn PairedTexts crashText moreCommitsText noCrashText opening textOf ascii digitValue isDigit scan closed unclosed linesFrom linesOf
 paired-commits =
-    sameLine (sameLine (sameLine (sameLine (sameLine (countNoLower (is-commit-line 1) (is-commit-line 3) refl (omega arith) (sameLine noLines))))))
+    sameLine (sameLine (sameLine (sameLine (sameLine (countNoLower {b = commitLine 1} {c = commitLine 3} refl refl refl refl refl (omega arith) (sameLine noLines))))))
 
 paired-missing : PairedTexts crashText noCrashText
-unfolding PairedTexts crashText moreCommitsText noCrashText opening textOf ascii digitValue isDigit scan closed unclosed linesFrom linesOf
-paired-missing = sameLine (sameLine (sameLine (sameLine (sameLine (missingLine (is-commit-line 1) (sameLine noLines))))))
+unfolding kindIn stepIn PairedTexts crashText moreCommitsText noCrashText opening textOf ascii digitValue isDigit scan closed unclosed linesFrom linesOf
+paired-missing = sameLine (sameLine (sameLine (sameLine (sameLine (missingLine {b = commitLine 1} refl refl (sameLine noLines))))))
 
 -- Case 1, case 3 and case 1 without its failure line.
 abbrev crash : Instance
@@ -160,7 +158,8 @@ written =
       before = replicate 120 165;
       after = bufferAfter (running crashText 120) (replicate 120 165);
       ran = record { answered = refl; buffer = refl };
-      called = record { call = record { answered = refl; buffer = refl }; small = omega arith };
+      called = record { answered = refl; buffer = refl };
+      small = omega arith;
     }
 
 -- So does running its text in mixed letters.
@@ -403,6 +402,7 @@ unfolding answerOf codeOf running resultIn bufferAfter resultText resultLines jo
 fits = record { answered = refl; buffer = refl }
 
 pub witnesses : Witnesses
+unfolding four settled met
 witnesses =
     record {
       moreCommits = more-commits;
@@ -411,6 +411,7 @@ witnesses =
       writtenMixed = written-mixed;
       sent = sent;
       settled = settled;
+      fourProcesses = refl;
       settledLater = settled-later;
       explained = explained;
       explainedSilent = explained-silent;

@@ -10,7 +10,7 @@ use Rattle.ticket_format.specs.Ticket.{readTicket}
 use Rattle.answers.specs.ResultLine.{resultText, resultSize}
 use Rattle.answers.specs.Running.{running, bufferAfter, written, programWrites}
 use Rattle.answers.specs.Code.{refusalsFrom}
-use Rattle.answers.proofs.WellFormed.{accepted-well-formed}
+use Rattle.ticket_laws.proofs.WellFormed.{accepted-well-formed}
 use Rattle.ticket_format.proofs.Passing.{refused-accepted}
 use Rattle.running.specs.Answer.{answerOf, Ran}
 use Rattle.running.specs.declared.RunAnswer.the-variants.{Written, Refused}
@@ -56,7 +56,6 @@ pub writes-results : WritesResults
 writes-results =
     record {
       byRunning = ran-wrote;
-      byCall = λ text before out code wrote.
-          answered-wrote text before out code (omega (arith, wrote .small)) (run-answered text before out code (wrote .call));
+      byCall = λ text before out code call small. answered-wrote text before out code small (run-answered text before out code call);
       byProgram = program-wrote;
     }

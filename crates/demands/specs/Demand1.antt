@@ -9,12 +9,17 @@ use Rattle.consensus.specs.Instance.{Instance}
 use Rattle.coordinator.specs.Settling.{firstSettling}
 use Rattle.ticket_format.specs.Reading.{accepted}
 use Rattle.ticket_format.specs.Ticket.{readTicket}
-use Rattle.ticket_format.specs.FirstWrong.{FirstWrong}
+use Rattle.ticket_laws.specs.FirstWrong.{FirstWrong}
 use Rattle.answers.specs.ResultLine.{resultText, resultSize, refusalLine}
 use Rattle.answers.specs.Running.{programWrites}
 use Rattle.answers.specs.Settle.{settling}
 use Rattle.demands.specs.OutputSays.{refusalSaid}
+use Rattle.text.specs.Split.{LinesSplit}
+use Rattle.ticket_laws.specs.AcceptedTexts.{AcceptedTexts}
+use Rattle.ticket_laws.specs.RefusedTexts.{RefusedTexts}
+use Rattle.ticket_laws.specs.TextsJudged.{TextsJudged}
 use Rattle.part_format.specs.Refused.{RefusedCallsChangeNothing, SpeakAnswersApart}
+use Rattle.part_laws.specs.PartCalls.{PartCalls}
 use Rattle.answers.specs.Code.{refusalsFrom, refusalCode, RunCall, numberCode}
 
 -- Running a text into a buffer of `room` bytes is refused with this number and line: for its first wrong line, or, with 9 and no line, for want of room.
@@ -36,16 +41,13 @@ pub data SettleAnswered (text : List ℕ) (code : ℕ) : Type 0 where
   round : (x : Instance) → readTicket text ≡ accepted x → code ≡ firstSettling x → code < refusalsFrom → SettleAnswered text code
   refusal : (number line : ℕ) → FirstWrong text number line → code ≡ refusalCode number line → refusalsFrom ≤ code → SettleAnswered text code
 
--- Of tickets: every text and every buffer gets its answer; a text is accepted or has a first wrong line, and only one.
+-- Of tickets: every text and every buffer gets its answer.
 pub record TicketsAnswered : Type 0 where
   pub run : (text before after : List ℕ) (code : ℕ) → RunCall text before after code → RunAnswered text before after code
   pub settle : (text : List ℕ) (code : ℕ) → code ≡ numberCode (settling text) → SettleAnswered text code
   -- the program writes the refusal's line, which says its number and its line
   pub program : (text : List ℕ) (number line : ℕ) → FirstWrong text number line
       → (programWrites text ≡ refusalLine number line) × (refusalSaid (programWrites text) ≡ some (record { refusal = number; line = line }))
-  pub onlyOne : (text : List ℕ) (number line number′ line′ : ℕ) → FirstWrong text number line → FirstWrong text number′ line′
-      → (number ≡ number′) × (line ≡ line′)
-  pub notBoth : (text : List ℕ) (x : Instance) (number line : ℕ) → readTicket text ≡ accepted x → FirstWrong text number line → ⊥
 
 -- Demand 1: of tickets, and of the calls of the process part, where a refused one changes no byte.
 pub record Demand1 : Type 0 where
@@ -53,3 +55,10 @@ pub record Demand1 : Type 0 where
   pub parts : RefusedCallsChangeNothing
   -- speaking's answer tells its refusal from what it yields
   pub speaking : SpeakAnswersApart
+  -- in document 01's words: which texts are accepted, which are refused and with what, and that each is one of the two; which bytes are lines; and what each
+  -- call of the process part answers and leaves
+  pub texts : TextsJudged
+  pub accepts : AcceptedTexts
+  pub refuses : RefusedTexts
+  pub lines : LinesSplit
+  pub calls : PartCalls

@@ -41,6 +41,9 @@ pub record OutputClaim : Type 0 where
       → UniformConsensus (suc (counts .crashes)) x ends
   pub crashes : (text : List ℕ) (x : Instance) (out : List ℕ) (ends : ℕ → State) (counts : Counts) → Wrote text x out → OutputSays x out ends counts
       → CountsCrashes (counts .crashes) x ends
+  -- and f of the last line is the number of station lines with end 02
+  pub crashed : (text : List ℕ) (x : Instance) (out : List ℕ) (ends : ℕ → State) (counts : Counts) → Wrote text x out → OutputSays x out ends counts
+      → counts .crashes ≡ crashedCount (endsOf x ends)
   pub noLater : (a b : List ℕ) (x y : Instance) (out out′ : List ℕ) (ends ends′ : ℕ → State) (counts counts′ : Counts)
       → Wrote a x out → Wrote b y out′ → OutputSays x out ends counts → OutputSays y out′ ends′ counts′ → PairedTexts a b → NoLater x ends y ends′
 

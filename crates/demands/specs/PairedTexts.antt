@@ -4,22 +4,16 @@
 use mathlib.Core.List.{List, [], _∷_}
 use mathlib.Core.Path.{_≡_}
 use Prim.Native.Nat.{ℕ, _≤_}
-use lib.ListN.{getD}
 use Rattle.text.specs.Line.{Line, bytes, linesOf}
+use Rattle.ticket_laws.specs.FirstWrong.{kindIn, stationIn, stepIn, countIn}
 
--- A failure line of the commit step: 03, station, round, 02, set (8 bytes), count.
-pub record CommitLine (b : List ℕ) : Type 0 where
-  -- of kind 03
-  pub kind : getD b 0 0 ≡ 3
-  -- of step 02
-  pub step : getD b 3 0 ≡ 2
-
+-- A line is the same in both; or it is of step 02 (kind 03), and stands in the second with a count no lower or is missing there.
 pub data PairedLines : List Line → List Line → Type 0 where
   noLines : PairedLines [] []
   sameLine : {line : Line} {l m : List Line} → PairedLines l m → PairedLines (line ∷ l) (line ∷ m)
-  countNoLower : {b c : List ℕ} {l m : List Line} → CommitLine b → CommitLine c → getD b 1 0 ≡ getD c 1 0 → getD b 12 0 ≤ getD c 12 0
-      → PairedLines l m → PairedLines (bytes b ∷ l) (bytes c ∷ m)
-  missingLine : {b : List ℕ} {l m : List Line} → CommitLine b → PairedLines l m → PairedLines (bytes b ∷ l) m
+  countNoLower : {b c : List ℕ} {l m : List Line} → kindIn b ≡ 3 → stepIn b ≡ 2 → kindIn c ≡ 3 → stepIn c ≡ 2 → stationIn b ≡ stationIn c
+      → countIn b ≤ countIn c → PairedLines l m → PairedLines (bytes b ∷ l) (bytes c ∷ m)
+  missingLine : {b : List ℕ} {l m : List Line} → kindIn b ≡ 3 → stepIn b ≡ 2 → PairedLines l m → PairedLines (bytes b ∷ l) m
 
 -- Two texts are paired if their lines are.
 unfoldable pub PairedTexts : (a b : List ℕ) → Type 0

@@ -10,7 +10,7 @@ use Rattle.consensus.specs.Consensus.{IsProcess, Decides, CrashesUndecided}
 use Rattle.coordinator.specs.Run.{lastRound, endOf}
 use Rattle.ticket_format.specs.Reading.{accepted}
 use Rattle.ticket_format.specs.Ticket.{readTicket}
-use Rattle.ticket_format.specs.FirstWrong.{FirstWrong}
+use Rattle.ticket_laws.specs.FirstWrong.{FirstWrong}
 use Rattle.answers.specs.Code.{refusalCode}
 use Rattle.pricing.specs.Price.{priceOf}
 use Rattle.pricing.specs.PricedLines.{Priced, Unpriced}

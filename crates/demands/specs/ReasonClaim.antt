@@ -11,7 +11,7 @@ use Rattle.coordinator.specs.Reason.{reasonOf, reasonsOf}
 use Rattle.coordinator_laws.specs.TrueReasons.{IsRound, TrueReason, ReasonsTrue, ReasonsByEnds}
 use Rattle.ticket_format.specs.Reading.{accepted}
 use Rattle.ticket_format.specs.Ticket.{readTicket}
-use Rattle.ticket_format.specs.FirstWrong.{FirstWrong}
+use Rattle.ticket_laws.specs.FirstWrong.{FirstWrong}
 use Rattle.answers.specs.Reason.{reason, reasonsSize}
 use Rattle.answers.specs.Code.{refusalsFrom, refusalCode, numberCode, ReasonsCall}
 use Rattle.running.specs.declared.RunAnswer.the-variants.{Written}

@@ -42,7 +42,7 @@ use Rattle.pricing_format.specs.QuoteCall.{QuoteCall, PriceCall}
 use Rattle.quotes.specs.Answer.{quoteOfAnswer}
 use Rattle.quotes.specs.declared.QuoteAnswer.the-variants.{Quote}
 use Rattle.demands.specs.OutputSays.{Sent, Counts, sentSaid, sentOf}
-use Rattle.demands.specs.Written.{Wrote, CallWrote}
+use Rattle.demands.specs.Written.{Wrote}
 use Rattle.demands.specs.SenderClaim.{MessagesSaid}
 use Rattle.demands.specs.PairedTexts.{PairedTexts}
 use Rattle.demands.specs.Demand3.{PairedInstances}
@@ -86,7 +86,8 @@ pub record RunMet (text : List ℕ) (size : ℕ) : Type 0 where
   pub before : List ℕ
   pub after : List ℕ
   pub ran : Ran text before after (Written size)
-  pub called : CallWrote text before after size
+  pub called : RunCall text before after size
+  pub small : size < refusalsFrom
 
 -- A text is accepted and its result is `out`, whose lines say what counts of each process and of all; what the first lines say of processes 1, 2 and so on.
 pub record SentMet (text out : List ℕ) (rows : List (Option Sent)) (counts : Counts) : Type 0 where
@@ -172,6 +173,7 @@ pub record Witnesses : Type 0 where
   pub sent : SentMet crashText (textOf (case1 .output)) (sentAs 3 1 ∷ sentAs 1 1 ∷ sentAs 0 0 ∷ sentAs 0 0 ∷ none ∷ [])
       (record { rounds = 2; crashes = 1; speakers = 2; dataSent = 4; commitsSent = 2 })
   pub settled : SettledMet crashText 1 2 2 10
+  pub fourProcesses : settled .instance .processes ≡ 4
   pub settledLater : SettledMet laterText 2 3 3 30
   -- process 3 hears the value only in round 1, whose coordinator crashes in it; and nothing in round 2 of case 6, whose coordinator crashed in round 1
   pub explained : ReasonMet crashText 3 1 3 1

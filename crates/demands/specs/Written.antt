@@ -17,14 +17,9 @@ pub record Wrote (text : List ℕ) (x : Instance) (out : List ℕ) : Type 0 wher
   pub behind : List ℕ
   pub front : out ≡ resultText x ++ behind
 
--- The C call has answered that it wrote a result: its answer is below 65536.
-pub record CallWrote (text before out : List ℕ) (code : ℕ) : Type 0 where
-  pub call : RunCall text before out code
-  pub small : code < refusalsFrom
-
 -- The claim: it does wherever running answers that it wrote one, by the library's own contract; wherever the C call answers less than 65536, by that call's
 -- answer and bytes alone; and in what the program writes for an accepted text.
 pub record WritesResults : Type 0 where
   pub byRunning : (text before out : List ℕ) (size : ℕ) → Ran text before out (Written size) → (x : Instance) × Wrote text x out
-  pub byCall : (text before out : List ℕ) (code : ℕ) → CallWrote text before out code → (x : Instance) × Wrote text x out
+  pub byCall : (text before out : List ℕ) (code : ℕ) → RunCall text before out code → code < refusalsFrom → (x : Instance) × Wrote text x out
   pub byProgram : (text : List ℕ) (x : Instance) → readTicket text ≡ accepted x → Wrote text x (programWrites text)

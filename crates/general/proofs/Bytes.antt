@@ -2,7 +2,7 @@
 use mathlib.Core.List.{List, [], _∷_, _++_}
 use Prim.Native.Nat.{ℕ, zero, suc, _+_, _<_}
 use native.Mathlib.Omega.{arith}
-use lib.ListN.{getD, drop}
+use lib.ListN.{getD, take, drop}
 use lib.Seq.{getD-drop}
 
 -- Every number of the list is below the bound.
@@ -38,3 +38,10 @@ bytes-append (b ∷ bs) more h g (suc i) = bytes-append bs more (λ j. h (suc j)
 -- The rest of some bytes.
 pub drop-bytes : (k : ℕ) (b : List ℕ) → Bytes b → Bytes (drop k b)
 drop-bytes k b h i = rw getD-drop (h (k + i))
+
+-- The first of some bytes.
+pub take-bytes : (k : ℕ) (b : List ℕ) → Bytes b → Bytes (take k b)
+take-bytes zero b h i = omega arith
+take-bytes (suc k) [] h i = omega arith
+take-bytes (suc k) (a ∷ b) h zero = h 0
+take-bytes (suc k) (a ∷ b) h (suc i) = take-bytes k b (λ j. h (suc j)) i

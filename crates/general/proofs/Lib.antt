@@ -9,5 +9,6 @@ pub mod Counts
 pub mod CountCases
 pub mod Table
 pub mod Sets
+pub mod Between
 pub mod Filling
 pub mod Overwrite

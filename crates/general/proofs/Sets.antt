@@ -58,7 +58,7 @@ pub member-xor : (p a b : ℕ) → member p (bitXor a b) ≡ cond (member p a) (
 member-xor = member-of bitXor differ (λ s t. cond s (not t) t) xor-step xor-shr refl refl refl refl
 
 -- A set below 2 ^ (p - 1) does not have process p; the empty set has none.
-member-beyond : (p set : ℕ) → set < 2 ^ (p - 1) → member p set ≡ false
+pub member-beyond : (p set : ℕ) → set < 2 ^ (p - 1) → member p set ≡ false
 unfolding member
 member-beyond p set h = rw (div-eq-of-lt h)
 
@@ -66,7 +66,7 @@ pub member-none : (p : ℕ) → member p 0 ≡ false
 member-none p = member-beyond p 0 (pow-pos (p - 1))
 
 -- Of process p the n lowest digits tell, if p ≤ n.
-member-low : (n p set : ℕ) → 1 ≤ p → p ≤ n → member p (set % 2 ^ n) ≡ member p set
+pub member-low : (n p set : ℕ) → 1 ≤ p → p ≤ n → member p (set % 2 ^ n) ≡ member p set
 unfolding member
 member-low n p set h g =
     let rest : n - p + (1 + (p - 1)) ≡ n = omega arith in

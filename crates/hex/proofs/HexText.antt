@@ -1,4 +1,4 @@
--- Laws of lines of hexadecimal text: a line's length, what one byte more does to a line that is being written, and one line more to an output. Assumes nothing.
+-- Laws of lines of hexadecimal text: what one byte more does to a line that is being written, and one line more to an output. Assumes nothing.
 use mathlib.Core.List.{List, [], _∷_, _++_}
 use mathlib.Core.Path.{_≡_, refl, sym, ap, ap₂, _∙_}
 use Prim.Native.Nat.{ℕ, suc, _+_, _-_, _*_, _/_, _%_, _≤_, _<_}
@@ -9,20 +9,7 @@ use lib.ListN.{length, set, drop, getD, take, length-take, length-append}
 use lib.Seq.{take-suc, take-all}
 use Rattle.general.proofs.Overwrite.{set-seam, put-part}
 use Rattle.text.specs.HexText.{digitOf, hexDigits, hexLine, lineSize}
-
-length-hexDigits : (bs : List ℕ) → length (hexDigits bs) ≡ 2 * length bs
-unfolding hexDigits
-length-hexDigits [] = refl
-length-hexDigits (b ∷ bs) = let e = length-hexDigits bs in omega arith
-
-pub length-hexLine : (bs : List ℕ) → length (hexLine bs) ≡ lineSize (length bs)
-unfolding hexLine
-length-hexLine bs = length-append (hexDigits bs) (10 ∷ []) ∙ ap (λ (m : ℕ). m + 1) (length-hexDigits bs)
-
-hexDigits-snoc : (bs : List ℕ) (b : ℕ) → hexDigits (bs ++ (b ∷ [])) ≡ hexDigits bs ++ (digitOf (b / 16) ∷ []) ++ (digitOf (b % 16) ∷ [])
-unfolding hexDigits
-hexDigits-snoc [] b = refl
-hexDigits-snoc (c ∷ bs) b = ap (λ (l : List ℕ). digitOf (c / 16) ∷ digitOf (c % 16) ∷ l) (hexDigits-snoc bs b)
+use Rattle.text.proofs.HexText.{length-hexDigits, length-hexLine, hexDigits-snoc}
 
 -- A line of which i bytes are written, over what stood there before.
 unfoldable pub partLine : List ℕ → List ℕ → ℕ → List ℕ

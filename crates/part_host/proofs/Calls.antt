@@ -33,7 +33,7 @@ module _ (b : List ℕ) (ended : stateFrom b .mark ≡ 0 → ⊥) where
   ended-stays frames = sym (close-refused b frames (stateRefusal b) refl not-taken .1)
 
 -- The host finds in its buffer what a part yields.
-module _ (b output : List ℕ) (enough : outputRoom ≤ length output) where
+module _ (b output : List ℕ) (enough : 8 ≤ length output) where
   same-yielded : speakYields b (length output) ≡ yielded (up b)
   unfolding yielded outputRoom
   same-yielded = same-yields b (length output) enough
@@ -48,7 +48,7 @@ module _ (b output : List ℕ) (enough : outputRoom ≤ length output) where
       record {
         front = λ low. rw (c .count, same-yielded) (take-append-seam (yielded (up b)) _);
         counted = λ low. c .count ∙ ap length same-yielded;
-        refused = λ high. absurd (at-most-eight (c .size) (high .least));
+        refused = λ high. absurd (at-most-eight (c .size) high);
         behind = rw same-yielded (drop-append-seam (yielded (up b)) _);
       }
     where
@@ -72,5 +72,5 @@ unfolding OutputYielded SpeakAnswersApart
 output-yielded b output enough = by-answer (speak-answers-apart b (length output))
   where
     by-answer : AnswersCount b (length output) ⊎ AnswersRefusal b (length output) → FindsYielded b output
-    by-answer (inl c) = counted-front b output (enough .room) c
-    by-answer (inr a) = refused-front b output (enough .room) a
+    by-answer (inl c) = counted-front b output enough c
+    by-answer (inr a) = refused-front b output enough a

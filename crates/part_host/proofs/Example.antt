@@ -1,6 +1,9 @@
 -- Case 1 of document 01 by separate parts: the host's definitions compute (`case1-parts`), and the premises of the claims on parts are met (`premises-met`).
 -- Assumes nothing.
-use mathlib.Core.Path.{refl}
+use mathlib.Core.List.{[]}
+use mathlib.Core.Path.{_≡_, refl}
+use Prim.Native.Nat.{_≤_}
+use lib.ListN.{length, take}
 use native.Mathlib.Omega.{arith}
 use Rattle.general.specs.BigEndian.{number, numberFrom, bytesOf}
 use Rattle.general.specs.Indexed.{mapFrom}
@@ -17,13 +20,14 @@ use Rattle.consensus.specs.FourProcesses.{four, firstCrashes, afterOneCommit}
 use Rattle.part_format.specs.PartState.{stateBytes, stateFrom, identityValid, roundValid, fieldsValid, stateValid, stateRefusal, isOwnRound}
 use Rattle.part_format.specs.Frame.{dataFrame, commitFrame, framesOf, isDataFrame, isCommitFrame, messagesFrom, heardBy}
 use Rattle.part_format.specs.Start.{startRefusal, startState, startBytes}
-use Rattle.part_format.specs.Speak.{spokenBy, speakRefusal, speakYields, speakAnswer}
+use Rattle.part_format.specs.Speak.{spokenBy, speakRefusal, speakYields, speakAnswer, speakOutput}
 use Rattle.part_format.specs.Close.{stateAfter, closedOn, closeOnHeard, closeState}
-use Rattle.part_host.specs.Part.{partOf, isOpen, outputRoom, yielded}
-use Rattle.part_host.specs.Output.{HasRoom, AnswersUpTo8, AnswersAbove8}
+use Rattle.part_host.specs.Part.{up, partOf, isOpen, outputRoom, yielded}
+use Rattle.part_host.specs.Output.{FindsYielded, OutputYielded}
 use Rattle.part_host.specs.Hearing.{bytesReaching, reachFrom, letThrough, heardFrom, heard}
 use Rattle.part_host.specs.Host.{blank, startedParts, partAfter, partsAfter, partsTo, partsOf}
 use Rattle.part_host.specs.DecideAlike.{EndsAs, OpenAfter}
+use Rattle.part_host.proofs.Calls.{output-yielded}
 use Rattle.part_host.specs.Example.{Case1Parts, second, ended, buffer, PremisesMet}
 
 pub case1-parts : Case1Parts
@@ -44,9 +48,28 @@ opens-second = record { process = omega arith; within = omega arith; kept = refl
 
 -- ---- what is answered
 
-answers : HasRoom buffer × AnswersUpTo8 second buffer × AnswersAbove8 ended buffer
-unfolding second ended buffer number numberFrom bytesOf withinLimits sends stateFrom identityValid roundValid fieldsValid stateValid stateRefusal isOwnRound dataFrame commitFrame framesOf spokenBy speakRefusal speakYields speakAnswer outputRoom
-answers = (omega arith, omega arith, omega arith)
+answer-low : speakAnswer second (length buffer) ≡ 8
+unfolding second buffer number numberFrom bytesOf withinLimits sends stateFrom identityValid roundValid fieldsValid stateValid stateRefusal isOwnRound dataFrame commitFrame framesOf spokenBy speakRefusal speakYields speakAnswer
+answer-low = refl
+
+answer-high : speakAnswer ended (length buffer) ≡ 11
+unfolding ended buffer number numberFrom bytesOf withinLimits sends stateFrom identityValid roundValid fieldsValid stateValid stateRefusal isOwnRound dataFrame commitFrame framesOf spokenBy speakRefusal speakYields speakAnswer
+answer-high = refl
+
+room : 8 ≤ length buffer
+unfolding buffer
+room = omega arith
+
+found : FindsYielded second buffer
+unfolding OutputYielded
+found = output-yielded second buffer room
+
+found-front : take 8 (speakOutput second buffer) ≡ yielded (up second)
+found-front = rw answer-low at (found .front (omega (arith, answer-low)))
+
+found-refused : yielded (up ended) ≡ []
+unfolding OutputYielded
+found-refused = output-yielded ended buffer room .refused (omega (arith, answer-high)) .1
 
 pub premises-met : PremisesMet
 unfolding four firstCrashes afterOneCommit
@@ -56,7 +79,7 @@ premises-met =
       crashes = ends .1;
       started = omega arith;
       opens = opens-second;
-      room = answers .0;
-      low = answers .1;
-      high = answers .2;
+      low = found;
+      front = found-front;
+      high = found-refused;
     }

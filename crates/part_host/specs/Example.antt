@@ -2,11 +2,13 @@
 use mathlib.Core.List.{List, [], _∷_}
 use mathlib.Core.Path.{_≡_}
 use Prim.Native.Nat.{ℕ}
+use lib.ListN.{take}
 use Rattle.consensus.specs.State.{decided, crashed}
 use Rattle.consensus.specs.Consensus.{IsProcess}
 use Rattle.consensus.specs.FourProcesses.{afterOneCommit}
-use Rattle.part_host.specs.Part.{up, crashedIn}
-use Rattle.part_host.specs.Output.{HasRoom, AnswersUpTo8, AnswersAbove8}
+use Rattle.part_format.specs.Speak.{speakOutput}
+use Rattle.part_host.specs.Part.{up, crashedIn, yielded}
+use Rattle.part_host.specs.Output.{FindsYielded}
 use Rattle.part_host.specs.Host.{partsOf}
 use Rattle.part_host.specs.DecideAlike.{EndsAs, OpenAfter}
 
@@ -39,7 +41,7 @@ pub record PremisesMet : Type 0 where
   -- process 2 is started, and its part is open as round 2 begins
   pub started : IsProcess afterOneCommit 2
   pub opens : OpenAfter afterOneCommit 1 2 second
-  -- the buffer has room; that part's answer is up to 8, and above it once it has decided
-  pub room : HasRoom buffer
-  pub low : AnswersUpTo8 second buffer
-  pub high : AnswersAbove8 ended buffer
+  -- the buffer has room; that part's answer is up to 8, and its frames stand at the front; and above 8 once it has decided, and it yields nothing
+  pub low : FindsYielded second buffer
+  pub front : take 8 (speakOutput second buffer) ≡ yielded (up second)
+  pub high : yielded (up ended) ≡ []

@@ -14,7 +14,8 @@ use Rattle.general.proofs.Indexed.{mapFrom-snoc}
 use Rattle.consensus.specs.State.{State, crashed, stateOf}
 use Rattle.coordinator.specs.Run.{Run}
 use Rattle.text.specs.HexText.{hexLine, lineSize}
-use Rattle.hex.proofs.HexText.{length-hexLine, line-more}
+use Rattle.text.proofs.HexText.{length-hexLine}
+use Rattle.hex.proofs.HexText.{line-more}
 use Rattle.answers.proofs.ResultLength.{length-last, length-process-lines}
 use Rattle.answers.specs.ResultLine.{endBytes, processLine, lastLine, processLineSize, lastLineSize, joined, lineBy, processLines, resultLines, resultSize}
 

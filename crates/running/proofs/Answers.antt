@@ -19,7 +19,7 @@ use Rattle.tables.specs.declared.RunTable.{RunTable}
 use Rattle.tables.specs.RunOfTable.{runOver, runFrom}
 use Rattle.ticket_format.specs.Reading.{Reading, accepted, refused}
 use Rattle.ticket_format.specs.Ticket.{readTicket}
-use Rattle.answers.proofs.WellFormed.{accepted-well-formed}
+use Rattle.ticket_laws.proofs.WellFormed.{accepted-well-formed}
 use Rattle.answers.specs.ResultLine.{resultText, resultLines, resultSize}
 use Rattle.answers.proofs.ResultLength.{length-text}
 use Rattle.answers.specs.Running.{resultIn, running, bufferAfter}

@@ -31,7 +31,7 @@ capital-value : (c : ℕ) → digitValue (capital c) ≡ digitValue c
 unfolding tabulate mapFrom digitValue capital
 capital-value = capital-same digitValue 0 refl
 
-capital-digit : (c : ℕ) → isDigit (capital c) ≡ isDigit c
+pub capital-digit : (c : ℕ) → isDigit (capital c) ≡ isDigit c
 unfolding isDigit
 capital-digit c = rw (capital-value c) refl
 

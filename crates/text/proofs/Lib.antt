@@ -3,4 +3,7 @@ pub mod LineBytes
 pub mod LineSteps
 pub mod LineReadBack
 pub mod Capitals
+pub mod HexText
+pub mod Spelling
+pub mod Split
 pub mod ByteCases

@@ -12,7 +12,7 @@ use Rattle.text.proofs.Digit.{value-digit, digit-read-back}
 use Rattle.text.proofs.LineSteps.{lines-digit, lines-closed}
 use Rattle.text.specs.HexText.{digitOf, hexDigits, hexLine}
 
-digit-is-one : (v : ℕ) → v < 16 → isDigit (digitOf v) ≡ true
+pub digit-is-one : (v : ℕ) → v < 16 → isDigit (digitOf v) ≡ true
 digit-is-one v h = value-digit (digitOf v) (omega (arith, digit-read-back v h))
 
 module _ (bs rest : List ℕ) where

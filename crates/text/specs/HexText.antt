@@ -17,6 +17,11 @@ hexDigits (b ∷ bs) = digitOf (b / 16) ∷ digitOf (b % 16) ∷ hexDigits bs
 unfoldable pub hexLine : List ℕ → List ℕ
 hexLine bs = hexDigits bs ++ (10 ∷ [])
 
+-- Lines, one behind the other.
+unfoldable pub hexLines : List (List ℕ) → List ℕ
+hexLines [] = []
+hexLines (bs ∷ lines) = hexLine bs ++ hexLines lines
+
 -- The length of the line of `count` bytes.
 abbrev pub lineSize : (count : ℕ) → ℕ
 lineSize count = 2 * count + 1

@@ -36,4 +36,4 @@ line-fits n t place b = by-case (line-case n t b place)
         let placed = crash-placed n t last _ (passes .placed) in
         record { first = placed .process-from-1; last = placed .process-to-n; round = placed .round-from-1; before = lines; station = last; at = refl }
     by-case (endSaid {lines} {last} kind) = (lines, last, refl)
-    by-case (lineRefused refusal some few) = tt
+    by-case (lineRefused refusal wrong) = tt

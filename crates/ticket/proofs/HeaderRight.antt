@@ -68,7 +68,7 @@ module _ (text : List ℕ) (short : length text ≤ ticketLimit) where
             let en : n ≡ getD (line .said) 1 0 = cc in
             let et : t ≡ getD (line .said) 2 0 = cc in
             rw (en, et) limits
-        by-case (headerRefused refusal some few) h = absurd (let z : _≡_ {A = ℕ} 0 1 = cc in let f : ⊥ = omega arith in f)
+        by-case (headerRefused refusal wrong) h = absurd (let z : _≡_ {A = ℕ} 0 1 = cc in let f : ⊥ = omega arith in f)
 
   line-right : (size head tail : ℕ) (next : Cursor) → LineAt text 0 size head tail next
       → (answer : HeaderAnswer) → answer ≡ headerSays (lineBytes size head tail) → HeaderReads text (withPlace answer (next .at))

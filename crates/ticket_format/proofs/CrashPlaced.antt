@@ -14,6 +14,7 @@ pub record Placed (n t last : ℕ) (l : FailureLine) : Type 0 where
   pub process-rises : last < l .process
   pub round-from-1 : 1 ≤ l .round
   pub round-to-last : l .round ≤ suc t
+  pub step-to-2 : l .step ≤ 2
 
 module _ (n t last : ℕ) (l : FailureLine) (placed : placesCrash n t last l ≡ true) where
   pub crash-placed : Placed n t last l
@@ -30,4 +31,5 @@ module _ (n t last : ℕ) (l : FailureLine) (placed : placesCrash n t last l ≡
         process-rises = ltb-true _ _ (rising .1);
         round-from-1 = leb-true _ _ (first .1);
         round-to-last = leb-true _ _ (rounds .1);
+        step-to-2 = leb-true _ _ (steps .1);
       }

@@ -3,7 +3,6 @@ pub mod Taken
 pub mod Passing
 pub mod Keeping
 pub mod RefusalRange
-pub mod FirstWrong
 pub mod ReadingCases
 pub mod Described
 pub mod ReadCapitals

@@ -15,7 +15,8 @@ use Rattle.ticket_format.specs.declared.Place.{Place}
 use Rattle.ticket_format.specs.declared.Place.the-variants.{Proposals, Failures, Ended}
 use Rattle.ticket_format.specs.declared.HeaderAnswer.{HeaderAnswer}
 use Rattle.ticket_format.specs.declared.LineAnswer.{LineAnswer}
-use Rattle.ticket_format.proofs.LineCases.{HeaderCase, limitsSaid, headerRefused, header-case, LineCase}
+use Rattle.ticket_format.proofs.LineCases.{HeaderWrong, noHeader, outsideLimits, HeaderCase, limitsSaid, headerRefused, header-case, LineCase}
+use Rattle.ticket_format.proofs.LineCases.{LineWrong, noProposal, otherStation, noFailureOrEnd, failuresOver, misplaced, unsuited, afterEnd}
 use Rattle.ticket_format.proofs.LineCases.{proposalSaid, crashSaid, endSaid, lineRefused, line-case}
 use Rattle.ticket_format.specs.Ticket.{ticketLimit, atEnd, readTicket}
 
@@ -67,20 +68,33 @@ from-few (c ∷ text) s =
     (omega (arith, ended)) (omega (arith, longer))
 
 -- A line of a ticket that is refused.
+header-range : {b : List ℕ} {refusal : ℕ} → HeaderWrong b refusal → (1 ≤ refusal) × (refusal ≤ 8)
+header-range (noHeader e) = (omega arith, omega arith)
+header-range (outsideLimits kind e) = (omega arith, omega arith)
+
+line-range : {n t refusal : ℕ} {b : List ℕ} {place : Place} → LineWrong n t b place refusal → (1 ≤ refusal) × (refusal ≤ 8)
+line-range (noProposal e) = (omega arith, omega arith)
+line-range (otherStation kind e) = (omega arith, omega arith)
+line-range (noFailureOrEnd e g) = (omega arith, omega arith)
+line-range (failuresOver kind many) = (omega arith, omega arith)
+line-range (misplaced kind few e) = (omega arith, omega arith)
+line-range (unsuited kind few placed e) = (omega arith, omega arith)
+line-range afterEnd = (omega arith, omega arith)
+
 line-numbered : (s : Stage) (b : List ℕ) → Numbered (accept s b)
 unfolding accept begin store Numbered
 line-numbered header b = by-case (header-case b)
   where
     by-case : {a : HeaderAnswer} → HeaderCase b a → Numbered (begin a)
     by-case (limitsSaid kind limits) = tt
-    by-case (headerRefused refusal some few) = (omega arith, omega arith)
+    by-case (headerRefused refusal wrong) = header-range wrong
 line-numbered (body place x) b = by-case (line-case (x .processes) (x .resilience) b place)
   where
     by-case : {at : Place} {a : LineAnswer} → LineCase (x .processes) (x .resilience) b at a → Numbered (store x a)
     by-case (proposalSaid kind station) = tt
     by-case (crashSaid passes) = tt
     by-case (endSaid kind) = tt
-    by-case (lineRefused refusal some few) = (omega arith, omega arith)
+    by-case (lineRefused refusal wrong) = line-range wrong
 
 -- A text that is over.
 end-refused : (last : ℕ) (s : Stage) (k : ℕ) → k ≤ last → RefusedBy last (atEnd s k)

@@ -35,7 +35,7 @@ header-taken b u e = by-case (header-case b) e
     by-case (limitsSaid kind limits) h =
         let at : body (Proposals 0) (unproposed (getD b 1 0) (getD b 2 0)) ≡ u = cc in
         subst (HeaderTaken b) at (takenHeader kind limits)
-    by-case (headerRefused refusal some few) h = absurd (refuse-next refusal u h)
+    by-case (headerRefused refusal wrong) h = absurd (refuse-next refusal u h)
 
 pub taken : (x : Instance) (place : Place) (b : List ℕ) (u : Stage) → store x (lineSays (x .processes) (x .resilience) place b) ≡ next u → Taken x b place u
 unfolding store
@@ -51,4 +51,4 @@ taken x place b u e = by-case (line-case (x .processes) (x .resilience) b place)
     by-case (endSaid {lines} {last} kind) h =
         let to : body Ended x ≡ u = cc in
         subst (Taken x b (Failures lines last)) to (takenEnd kind)
-    by-case (lineRefused refusal some few) h = absurd (refuse-next refusal u h)
+    by-case (lineRefused refusal wrong) h = absurd (refuse-next refusal u h)

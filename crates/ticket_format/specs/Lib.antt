@@ -4,7 +4,6 @@ pub mod Says
 pub mod Accept
 pub mod Reading
 pub mod Ticket
-pub mod FirstWrong
 pub mod Openings
 pub mod ReadingCases
 pub mod Described

@@ -2,14 +2,15 @@
 -- line, each limit from both sides, and which refusal is looked at first.
 use mathlib.Core.List.{List, [], _∷_, _++_, map}
 use mathlib.Core.Path.{_≡_}
-use Prim.Native.Nat.{ℕ}
+use Prim.Native.Nat.{ℕ, _+_}
 use lib.ListN.{length, replicate}
 use Rattle.general.specs.Table.{tabulate}
 use Rattle.general.specs.Text.{ascii}
 use Rattle.ticket_format.specs.Reading.{Reading, accepted, refused}
 use Rattle.ticket_format.specs.Ticket.{readTicket}
+use Rattle.text.specs.HexText.{hexLine, hexLines}
 use Rattle.text.specs.TextOf.{textOf}
-use Rattle.ticket_format.specs.Openings.{opening, afterOpening}
+use Rattle.ticket_format.specs.Openings.{opening, afterOpening, opening64}
 
 -- What is said of a text: it passes, or it is refused with this number at this line.
 pub data Verdict : Type 0 where
@@ -30,7 +31,8 @@ tooLong =
     ∷ (replicate 4097 120, refusedWith 1 0)
     ∷ []
 
--- Refusal 2: a character beside the digits on either side, an odd count of digits, no digit, a carriage return before the 0A, no 0A at the end.
+-- Refusal 2: a character beside the digits on either side, an odd count of digits, no digit, a carriage return before the 0A, no 0A at the end; spaces before,
+-- between and after bytes.
 unfoldable pub notLines : List Row
 notLines =
     (textOf ("01040/" ∷ []), refusedWith 2 1)
@@ -44,6 +46,9 @@ notLines =
     ∷ (textOf opening ++ ascii "04", refusedWith 2 6)
     ∷ (afterOpening ("04" ∷ "" ∷ []), refusedWith 2 7)
     ∷ (textOf ("01 04020" ∷ []), refusedWith 2 1)
+    ∷ (textOf (" 010402" ∷ []), refusedWith 2 1)
+    ∷ (textOf ("01 04 02" ∷ []), refusedWith 2 1)
+    ∷ (textOf ("010402  " ∷ []), refusedWith 2 1)
     ∷ (textOf ("01040`" ∷ []), refusedWith 2 1)
     ∷ (textOf ("01040g" ∷ []), refusedWith 2 1)
     ∷ (textOf ("0104g2" ∷ []), refusedWith 2 1)
@@ -174,10 +179,18 @@ firstRules =
 unfoldable pub readingRows : List Row
 readingRows = tooLong ++ notLines ++ smallLetters ++ wrongKinds ++ limits ++ stations ++ tooMany ++ places ++ steps ++ firstRules
 
--- The claim: reading answers as each row says, and there are 97 of them.
+-- 64 processes, of which 63 have a failure line, those of stations 2 to 64, in round 64: as many as there may be of each.
+unfoldable pub fullest : List ℕ
+fullest = textOf opening64 ++ hexLines (tabulate (λ (k : ℕ). 3 ∷ (k + 2) ∷ 64 ∷ replicate 10 0) 63) ++ textOf ("04" ∷ [])
+
+-- The claim: reading answers as each row says, and there are 100 of them.
 pub record ReadingCases : Type 0 where
-  pub rows : length readingRows ≡ 97
+  pub rows : length readingRows ≡ 100
   pub answered : map (λ (row : Row). verdictOf (readTicket (row .0))) readingRows ≡ map (λ (row : Row). row .1) readingRows
-  -- 0A alone closes a line: behind a header of six digits each other byte is refused there, and after 0A the text is over at line 2
-  pub closing : tabulate (λ (c : ℕ). verdictOf (readTicket (ascii "010402" ++ (c ∷ [])))) 256
-      ≡ replicate 10 (refusedWith 2 1) ++ (refusedWith 3 2 ∷ []) ++ replicate 245 (refusedWith 2 1)
+  -- 0A alone closes a line: behind a header of six digits each other byte, and 0A behind it, is refused there; after 0A the next line is empty
+  pub closing : tabulate (λ (c : ℕ). verdictOf (readTicket (ascii "010402" ++ (c ∷ 10 ∷ [])))) 256
+      ≡ replicate 10 (refusedWith 2 1) ++ (refusedWith 2 2 ∷ []) ++ replicate 245 (refusedWith 2 1)
+  -- of all kinds 01 alone begins a ticket
+  pub kinds : tabulate (λ (kind : ℕ). verdictOf (readTicket (hexLine (kind ∷ 4 ∷ 2 ∷ [])))) 256
+      ≡ (refusedWith 3 1 ∷ refusedWith 3 2 ∷ []) ++ replicate 254 (refusedWith 3 1)
+  pub fullestPasses : verdictOf (readTicket fullest) ≡ passes

@@ -11,7 +11,7 @@ use Rattle.tables.specs.declared.InstanceTable.{InstanceTable}
 use Rattle.tables.specs.declared.RunTable.{RunTable}
 use Rattle.ticket_format.specs.Reading.{accepted}
 use Rattle.ticket_format.specs.Ticket.{readTicket}
-use Rattle.answers.proofs.WellFormed.{accepted-well-formed}
+use Rattle.ticket_laws.proofs.WellFormed.{accepted-well-formed}
 use Rattle.ticket.proofs.ReadAs.{read-refused, read-accepted}
 use Rattle.reasons.proofs.OfRun.{few, rounds-few, reason-by-numbers}
 use Rattle.reasons.proofs.Answers.{tests-passed, reason-refused, reason-unknown, reason-given}

@@ -6,7 +6,7 @@ use Rattle.tables.specs.InstanceOfTable.{instanceOf, tableOf}
 use Rattle.tables.specs.declared.InstanceTable.{InstanceTable}
 use Rattle.ticket_format.specs.Reading.{accepted}
 use Rattle.ticket_format.specs.Ticket.{readTicket}
-use Rattle.answers.proofs.WellFormed.{accepted-well-formed}
+use Rattle.ticket_laws.proofs.WellFormed.{accepted-well-formed}
 use Rattle.ticket.proofs.ReadAs.{read-refused, read-accepted}
 use Rattle.coordinator_reason.proofs.Rows.{small-product}
 use Rattle.reasons.proofs.OfRun.{few, rounds-few}

@@ -6,7 +6,7 @@ use Rattle.tables.specs.InstanceOfTable.{instanceOf, tableOf}
 use Rattle.tables.specs.declared.InstanceTable.{InstanceTable}
 use Rattle.ticket_format.specs.Reading.{accepted}
 use Rattle.ticket_format.specs.Ticket.{readTicket}
-use Rattle.answers.proofs.WellFormed.{accepted-well-formed}
+use Rattle.ticket_laws.proofs.WellFormed.{accepted-well-formed}
 use Rattle.ticket.proofs.ReadAs.{read-refused, read-accepted}
 use Rattle.running.proofs.Answers.{ran-refused, ran-short, ran-written}
 use Rattle.running.proofs.run_rest.Statement.{statement}

@@ -4,7 +4,7 @@ use borrow.Author.Needs.{needs}
 use Rattle.tables.specs.InstanceOfTable.{instanceOf}
 use Rattle.ticket_format.specs.Reading.{accepted}
 use Rattle.ticket_format.specs.Ticket.{readTicket}
-use Rattle.answers.proofs.WellFormed.{accepted-well-formed}
+use Rattle.ticket_laws.proofs.WellFormed.{accepted-well-formed}
 use Rattle.ticket.proofs.ReadAs.{read-refused, read-accepted}
 use Rattle.running.proofs.Answers.{settled-in, settle-refused}
 use Rattle.running.proofs.settle.Statement.{statement}

@@ -31,8 +31,9 @@ use Rattle.ticket_format.proofs.LineCases.{HeaderCase, limitsSaid, headerRefuse
 use Rattle.ticket_format.proofs.LineCases.{proposalSaid, crashSaid, endSaid, lineRefused, line-case}
 use Rattle.ticket_format.proofs.Keeping.{Keeps, Gives, reading-gives}
 use Rattle.ticket_format.proofs.CrashPlaced.{crash-placed}
-use Rattle.answers.proofs.CrashAllowed.{crash-allowed}
-use Rattle.consensus.proofs.Limits.{Limits, limits-hold}
+use Rattle.ticket_laws.proofs.CrashAllowed.{crash-allowed}
+use Rattle.consensus.specs.Limits.{Limits}
+use Rattle.consensus.proofs.Limits.{limits-hold}
 use Rattle.consensus.proofs.FaultsStated.{count-set, faults-none, allowed-set}
 
 -- All values fit four bytes.
@@ -72,7 +73,7 @@ header-keeps b = by-case (header-case b)
   where
     by-case : {a : HeaderAnswer} → HeaderCase b a → Keeps StageAllowed (begin a)
     by-case (limitsSaid kind limits) = first-allowed _ _ limits
-    by-case (headerRefused refusal some few) = tt
+    by-case (headerRefused refusal wrong) = tt
 
 -- The instance after the last proposal, without any crash.
 without-crash : (x : Instance) → Limits (x .processes) (x .resilience) → ValuesFit (x .proposals) → length (x .proposals) ≡ x .processes
@@ -157,7 +158,7 @@ stage-keeps (body place x) b h g = by-case (line-case (x .processes) (x .resilie
         proposal-next x count (number (drop 2 b)) known (value-fits b h kind) (eqb (suc count) (x .processes)) refl
     by-case (crashSaid {lines} {last} passes) known = with-crash x lines last b known passes
     by-case (endSaid kind) known = known .well-formed
-    by-case (lineRefused refusal some few) known = tt
+    by-case (lineRefused refusal wrong) known = tt
 
 end-gives : (s : Stage) (k : ℕ) → StageAllowed s → Gives WellFormed (atEnd s k)
 unfolding atEnd Gives StageAllowed

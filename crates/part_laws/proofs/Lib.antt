@@ -1,0 +1,3 @@
+pub mod ValidState
+pub mod Heard
+pub mod PartCalls

@@ -1,0 +1,2 @@
+pub mod ValidState
+pub mod PartCalls

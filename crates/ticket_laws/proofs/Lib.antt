@@ -1,0 +1,11 @@
+pub mod CrashAllowed
+pub mod WellFormed
+pub mod Wording
+pub mod Judged
+pub mod RefusedTexts
+pub mod LinesAccepted
+pub mod TicketAccepted
+pub mod LinesExact
+pub mod TicketExact
+pub mod AcceptedTexts
+pub mod TextsJudged

@@ -1,0 +1,5 @@
+pub mod TicketText
+pub mod FirstWrong
+pub mod AcceptedTexts
+pub mod RefusedTexts
+pub mod TextsJudged
