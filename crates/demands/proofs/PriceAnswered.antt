@@ -19,6 +19,8 @@ use Rattle.pricing.specs.Largest.{highestRates, largestQuote}
 use Rattle.pricing.proofs.PricedLines.{priced-lines}
 use Rattle.pricing.proofs.Largest.{largest}
 use Rattle.part_format.specs.PartState.{stateFrom, markDecided, stateRefusal, ValidBytes}
+use Rattle.part_laws.specs.ValidState.{markOf, valueOf}
+use Rattle.part_laws.proofs.ValidState.{valid-state, no-state}
 use Rattle.part_host.specs.Part.{up}
 use Rattle.part_host.specs.PartEnds.{stateByPart}
 use Rattle.pricing_format.specs.Quoting.{quotedOr16, ofLines}
@@ -59,14 +61,14 @@ module _ (state costs : List ℕ) where
       by-state false e = by-priced (eqb-false (stateRefusal state) 10 e) (eqb (linesRefusal costs) 0) refl
 
   pub price-answered : (before after code : ℕ) → PriceCall state costs before after code → PriceAnswered state costs before after code
-  unfolding refusalNumber placeAfter
+  unfolding refusalNumber placeAfter stateFrom markOf valueOf
   price-answered before after code call = by-case (ownQuote state costs) price-case (call .answered) (call .place)
     where
       by-case : (a : Reading ℕ) → PriceCase state costs a → code ≡ refusalNumber a → after ≡ placeAfter a before → PriceAnswered state costs before after code
-      by-case _ (price valid lines marked) e f = PriceAnswered.quoted valid lines marked e f
-      by-case _ (waits valid lines other) e f = PriceAnswered.notDecided valid lines other e f
-      by-case _ (wrongLines number valid wrong) e f = PriceAnswered.lines number valid wrong e f
-      by-case _ (wrongState wrong) e f = PriceAnswered.noState wrong e f
+      by-case _ (price valid lines marked) e f = PriceAnswered.quoted (valid-state state valid) lines marked e f
+      by-case _ (waits valid lines other) e f = PriceAnswered.notDecided (valid-state state valid) lines other e f
+      by-case _ (wrongLines number valid wrong) e f = PriceAnswered.lines number (valid-state state valid) wrong e f
+      by-case _ (wrongState wrong) e f = PriceAnswered.noState (no-state state wrong) e f
 
 pub not-accepted : (number line pence : ℕ) → _≡_ {A = Reading ℕ} (refused number line) (accepted pence) → ⊥
 not-accepted number line pence e = let z : _≡_ {A = ℕ} 0 1 = cc in let w : ⊥ = omega arith in w

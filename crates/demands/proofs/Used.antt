@@ -27,12 +27,14 @@ claims-used =
     let four-processes = witnesses .fourProcesses in
     record {
       ticket = demand-1 .accepts .exact crashText _ read;
+      notWrong = λ refusal line. demand-1 .texts .notBoth crashText _ refusal line (demand-1 .accepts .exact crashText _ read);
       result = demand-2 .written .byCall crashText _ _ 101 (witnesses .written .called) (witnesses .written .small);
       noLater = demand-3 .rounds .noLater _ _ _ _ (pair .instances .first) (pair .instances .second) (pair .lines);
       partsNoLater = parts-claim .noLater _ _ _ _ (pair .instances .first) (pair .instances .second) (pair .lines);
       ordersNoLater =
           schedules-claim .noLater _ _ _ _ (witnesses .playedOtherwise .read) (witnesses .playedPaired .read) (pair .lines) _ _
           (witnesses .playedOtherwise .whole) (witnesses .playedPaired .whole);
+      roundsCrashed = demand-3 .rounds .crashed crashText _ (witnesses .sent .wrote .read);
       crashed = demand-3 .outputs .crashed crashText _ _ _ _ (witnesses .sent .wrote) (demand-2 .result crashText _ _ (witnesses .sent .wrote));
       short = λ after code call. room-claim .shortCalled crashText _ after code _ read call (omega (arith, four-processes));
       fits = λ after code call. omega (arith, four-processes, room-claim .enoughCalled crashText _ after code _ read call (omega (arith, four-processes)) .0);

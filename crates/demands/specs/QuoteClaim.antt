@@ -17,7 +17,8 @@ use Rattle.pricing.specs.PricedLines.{Priced, Unpriced}
 use Rattle.pricing.specs.Largest.{largestQuote}
 use Rattle.pricing.specs.UniformQuotes.{UniformQuotes}
 use Rattle.pricing.specs.Quote.{quoteBy}
-use Rattle.part_format.specs.PartState.{stateFrom, markDecided, stateRefusal, ValidBytes}
+use Rattle.part_format.specs.PartState.{ValidBytes}
+use Rattle.part_laws.specs.ValidState.{markOf, valueOf, ValidState}
 use Rattle.part_host.specs.Part.{partOf, bytesKept}
 use Rattle.part_host.specs.Host.{partsTo, endPartOf}
 use Rattle.part_host.specs.PartEnds.{endByPart}
@@ -48,12 +49,12 @@ pub data QuoteAnswered (text costs : List ℕ) (p before after code : ℕ) : Typ
 -- The same of the call that takes nine bytes: of a state that has decided the price by its value; else a refusal, 10 where they are no valid state, 14 and 15 for
 -- the lines, and 16 where the state has not decided.
 pub data PriceAnswered (state costs : List ℕ) (before after code : ℕ) : Type 0 where
-  quoted : (stateRefusal state ≡ 10 → ⊥) → Priced costs → stateFrom state .mark ≡ markDecided → code ≡ 0 → after ≡ priceOf (stateFrom state .value) costs
+  quoted : ValidState state → Priced costs → markOf state ≡ 1 → code ≡ 0 → after ≡ priceOf (valueOf state) costs
       → PriceAnswered state costs before after code
-  notDecided : (stateRefusal state ≡ 10 → ⊥) → Priced costs → (stateFrom state .mark ≡ markDecided → ⊥) → code ≡ 16 → after ≡ before
+  notDecided : ValidState state → Priced costs → (markOf state ≡ 1 → ⊥) → code ≡ 16 → after ≡ before
       → PriceAnswered state costs before after code
-  lines : (number : ℕ) → (stateRefusal state ≡ 10 → ⊥) → Unpriced costs number → code ≡ number → after ≡ before → PriceAnswered state costs before after code
-  noState : stateRefusal state ≡ 10 → code ≡ 10 → after ≡ before → PriceAnswered state costs before after code
+  lines : (number : ℕ) → ValidState state → Unpriced costs number → code ≡ number → after ≡ before → PriceAnswered state costs before after code
+  noState : (ValidState state → ⊥) → code ≡ 10 → after ≡ before → PriceAnswered state costs before after code
 
 pub record QuoteClaim : Type 0 where
   -- every text, list of costs, process and place gets its answer

@@ -6,10 +6,11 @@ use lib.ListN.{replicate}
 use Rattle.consensus.specs.Instance.{Instance}
 use Rattle.consensus.specs.Consensus.{NoLater, endsOf}
 use Rattle.consensus.specs.CrashCount.{crashedCount}
-use Rattle.coordinator.specs.Run.{endOf}
+use Rattle.coordinator.specs.Run.{crashesOf, endOf}
 use Rattle.coordinator.specs.WithoutIdle.{withoutIdle}
 use Rattle.coordinator_laws.specs.FirstSettling.{FirstSettles, SettledSince}
 use Rattle.ticket_laws.specs.AcceptedTexts.{TicketOf}
+use Rattle.ticket_laws.specs.FirstWrong.{FirstWrong}
 use Rattle.ticket_laws.specs.TicketText.{ticketText}
 use Rattle.answers.specs.Code.{refusalCode, RunCall}
 use Rattle.part_host.specs.PartEnds.{endByPart}
@@ -26,8 +27,9 @@ use Rattle.demands.specs.ReasonClaim.{OnlyReason, AllReasons}
 use Rattle.demands.specs.Witnesses.{crashText, mixedText, Witnesses}
 
 pub record ClaimsUsed (w : Witnesses) : Type 0 where
-  -- demand 1: case 1 is the ticket of its instance, in mixed letters too
+  -- demand 1: case 1 is the ticket of its instance, and has no wrong line
   pub ticket : TicketOf (w .settled .instance) crashText
+  pub notWrong : (refusal line : ℕ) → FirstWrong crashText refusal line → ⊥
   -- demand 2: what the call wrote is a result
   pub result : (x : Instance) × Wrote crashText x (w .written .after)
   -- demand 3: of cases 1 and 3, in the rounds, by separate parts, and by parts in another order; of the bytes of case 1's result
@@ -35,6 +37,7 @@ pub record ClaimsUsed (w : Witnesses) : Type 0 where
   pub partsNoLater : NoLater (w .moreCommits .first) (endByPart (w .moreCommits .first)) (w .moreCommits .second) (endByPart (w .moreCommits .second))
   pub ordersNoLater : NoLater (w .playedOtherwise .instance) (endsBy (played (w .playedOtherwise .instance) (passingSchedule afterOneCommit permuted) .parts))
       (w .playedPaired .instance) (endsBy (played (w .playedPaired .instance) (passingSchedule afterAllCommits permuted) .parts))
+  pub roundsCrashed : crashesOf (w .sent .instance) ≡ crashedCount (endsOf (w .sent .instance) (endOf (w .sent .instance)))
   pub crashed : countsOf (w .sent .instance) .crashes ≡ crashedCount (endsOf (w .sent .instance) (endOf (w .sent .instance)))
   -- the room: 100 bytes are too few, and 101 are not
   pub short : (after : List ℕ) (code : ℕ) → RunCall crashText (replicate 100 165) after code → (code ≡ refusalCode 9 0) × (after ≡ replicate 100 165)

@@ -6,12 +6,9 @@ use native.Mathlib.Nat.{lt-of-lt-of-le, pow-suc, mod-lt}
 use native.Mathlib.Omega.{arith}
 use lib.Pow.{pow-pos, pow-mono}
 use Rattle.general.specs.Bits.{member, setOf}
-use Rattle.general.proofs.Tests.{by-order, refuted}
+use Rattle.general.proofs.Tests.{true-false, by-order, refuted}
 use Rattle.general.proofs.Bits.{member-above}
 use Rattle.general.proofs.Sets.{member-beyond, member-low, is-set, set-empty}
-
-true-false : true ≡ false → ⊥
-true-false e = let z : _≡_ {A = ℕ} 1 0 = cc in omega arith
 
 lt-pow : (k : ℕ) → k < 2 ^ k
 lt-pow zero = omega arith

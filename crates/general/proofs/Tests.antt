@@ -2,6 +2,7 @@
 use mathlib.Core.Path.{_≡_, refl, sym}
 use mathlib.Core.Bool.{Bool, true, false, cond, _&&_}
 use Prim.Native.Nat.{ℕ, _≤_, _<_}
+use native.Mathlib.Omega.{arith}
 use lib.Dec.{leb, eqb}
 use borrow.Author.Tests.{leb-true, leb-false, eqb-true, eqb-false}
 
@@ -9,6 +10,10 @@ use borrow.Author.Tests.{leb-true, leb-false, eqb-true, eqb-false}
 pub both : (a b : Bool) → (a && b) ≡ true → (a ≡ true) × (b ≡ true)
 both true b e = (refl, e)
 both false b e = (e, cc)
+
+-- No test both holds and fails.
+pub true-false : true ≡ false → ⊥
+true-false e = let z : _≡_ {A = ℕ} 1 0 = cc in omega arith
 
 -- A test that holds only where nothing does is false.
 pub refuted : (b : Bool) → (b ≡ true → ⊥) → false ≡ b

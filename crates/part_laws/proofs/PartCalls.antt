@@ -9,7 +9,7 @@ use borrow.Author.Tests.{eqb-true, eq-eqb, ne-eqb, lt-ltb, le-ltb}
 use lib.Dec.{eqb, ltb}
 use lib.ListN.{length, getD}
 use Rattle.general.specs.BigEndian.{bytesOf}
-use Rattle.general.proofs.Tests.{both, by-order, by-equal}
+use Rattle.general.proofs.Tests.{true-false, both, by-order, by-equal, refuted}
 use Rattle.general.proofs.Bytes.{Bytes}
 use Rattle.coordinator.specs.Message.{Messages, nothing, estimate, estimateAndCommit}
 use Rattle.coordinator.specs.Transition.{continues, sends, receives}
@@ -22,15 +22,11 @@ use Rattle.part_format.proofs.Valid.{identity-holds}
 use Rattle.part_format.proofs.Carried.{Carried}
 use Rattle.part_format.proofs.RoundTrip.{heard-frames}
 use Rattle.part_format.proofs.Operations.{close-refused, close-no-form, close-closed}
-use Rattle.part_laws.specs.ValidState.{stationIn, nIn, tIn, roundIn, markIn, valueIn, OpenState}
+use Rattle.part_laws.specs.ValidState.{stationOf, nOf, tOf, roundOf, markOf, valueOf, OpenState}
 use Rattle.part_laws.specs.PartCalls.{Startable, Starts, outside, started, Speaks, notValid, notOpen, tooShort, inOwnRound, inOthersRound, Takes, nothingHeard, dataHeard}
 use Rattle.part_laws.specs.PartCalls.{commitHeard, withRound, GoesOn, roundRises, roundsOver, Closes, noState, noOpenState, notTaken, decidesOwn, keeps, adopts, decides, PartCalls}
-use Rattle.part_laws.proofs.ValidState.{true-false, identified, identity-of, refusal-10, refusal-11, refusal-none, by-state}
+use Rattle.part_laws.proofs.ValidState.{identified, identity-of, refusal-10, refusal-11, refusal-none, by-state}
 use Rattle.part_laws.proofs.Heard.{Carries, none-sent, data-sent, both-sent, Taken, taken}
-
-refuted-so : (t : Bool) → (t ≡ true → ⊥) → t ≡ false
-refuted-so true never = absurd (never refl)
-refuted-so false never = refl
 
 -- ---- starting
 
@@ -43,7 +39,7 @@ module _ (p n t v : ℕ) (lent : List ℕ) where
   start-answered : (answer : ℕ) (after : List ℕ) → Starts p n t v lent answer after → (answer ≡ startRefusal p n t lent) × (after ≡ startBytes p n t v lent)
   unfolding startRefusal startBytes startState stateBytes
   start-answered answer after (outside never) =
-      let refused : (identityValid p n t && eqb (length lent) 9) ≡ false = refuted-so (identityValid p n t && eqb (length lent) 9) (λ e. never (startable e)) in
+      let refused : (identityValid p n t && eqb (length lent) 9) ≡ false = sym (refuted (identityValid p n t && eqb (length lent) 9) (λ e. never (startable e))) in
       (rw refused refl, rw refused refl)
   start-answered answer after (started h) =
       let accepted : identityValid p n t ≡ true = identity-holds (identity-of p n t (h .identified)) in
@@ -67,12 +63,12 @@ module _ (p n t v : ℕ) (lent : List ℕ) where
 
 -- ---- the round of a state: its own, or another's
 
-own-round : (state : List ℕ) → roundIn state ≡ stationIn state → isOwnRound (stateFrom state) ≡ true
-unfolding isOwnRound stateFrom roundIn stationIn
+own-round : (state : List ℕ) → roundOf state ≡ stationOf state → isOwnRound (stateFrom state) ≡ true
+unfolding isOwnRound stateFrom roundOf stationOf
 own-round state e = eq-eqb (getD state 0 0) (getD state 3 0) (sym e)
 
-others-round : (state : List ℕ) → (roundIn state ≡ stationIn state → ⊥) → isOwnRound (stateFrom state) ≡ false
-unfolding isOwnRound stateFrom roundIn stationIn
+others-round : (state : List ℕ) → (roundOf state ≡ stationOf state → ⊥) → isOwnRound (stateFrom state) ≡ false
+unfolding isOwnRound stateFrom roundOf stationOf
 others-round state never = ne-eqb (getD state 0 0) (getD state 3 0) (λ e. never (sym e))
 
 -- ---- speaking
@@ -90,7 +86,7 @@ module _ (state output : List ℕ) where
 
   speak-answered : (answer : ℕ) (after : List ℕ) → Speaks state output answer after
       → (answer ≡ speakAnswer state (length output)) × (after ≡ speakOutput state output)
-  unfolding speakAnswer speakOutput speakYields speakRefusal spokenBy sends framesOf dataFrame commitFrame bytesOf stateFrom roundIn valueIn
+  unfolding speakAnswer speakOutput speakYields speakRefusal spokenBy sends framesOf dataFrame commitFrame bytesOf stateFrom roundOf valueOf
   speak-answered answer after (notValid never) =
       speak-refused 10 (state-refused 10 (refusal-10 state never) (λ z. omega (arith, z))) (λ z. omega (arith, z))
   speak-answered answer after (notOpen valid marked) =
@@ -109,7 +105,7 @@ module _ (state output : List ℕ) where
   speaks =
       by-state state (λ never. so (notValid never)) (λ valid marked. so (notOpen valid marked))
       (λ opened.
-      by-equal (roundIn state) (stationIn state)
+      by-equal (roundOf state) (stationOf state)
       (λ own. by-order 8 (length output) (λ room. so (inOwnRound opened own room)) (λ short. so (tooShort opened own short)))
       (λ other. so (inOthersRound opened other)))
     where
@@ -121,35 +117,35 @@ module _ (state output : List ℕ) where
 
 module _ (state heard : List ℕ) where
   -- An accepted close on these messages.
-  close-on : (m : Messages) (after : List ℕ) → OpenState state → Carried m → heard ≡ framesOf (roundIn state) m
+  close-on : (m : Messages) (after : List ℕ) → OpenState state → Carried m → heard ≡ framesOf (roundOf state) m
       → (isOwnRound (stateFrom state) ≡ true → m ≡ nothing) → after ≡ stateBytes (closedOn (stateFrom state) m)
       → (0 ≡ closeRefusal state heard) × (after ≡ closeState state heard)
-  unfolding stateFrom roundIn
+  unfolding stateFrom roundOf
   close-on m after opened carried frames own left =
       let received : heardBy (stateFrom state) heard ≡ some m = ap (heardBy (stateFrom state)) frames ∙ heard-frames (stateFrom state) m carried own in
       close-closed state heard (refusal-none state opened) after m (sym received) left
 
   -- An undecided process at the end of the round.
   goes-on : (v : ℕ) (after : List ℕ) → GoesOn state v after → after ≡ stateBytes (stateAfter (stateFrom state) (continues v))
-  unfolding stateAfter stateBytes stateFrom withRound stationIn nIn tIn roundIn
+  unfolding stateAfter stateBytes stateFrom withRound stationOf nOf tOf roundOf
   goes-on v after (roundRises low) = rw (ne-eqb (getD state 3 0) (suc (getD state 2 0)) (λ e. omega (arith, e, low))) refl
   goes-on v after (roundsOver last) = rw (eq-eqb (getD state 3 0) (suc (getD state 2 0)) last, last) refl
 
   module _ (each : Bytes heard) where
     -- Bytes that are taken carry messages, and those that are not carry none.
     takes : (m : Messages) → heardBy (stateFrom state) heard ≡ some m → Takes state heard
-    unfolding stateFrom roundIn
+    unfolding stateFrom roundOf
     takes m e = by-case (t .carries)
       where
         t : Taken (stateFrom state) heard m
         t = taken (stateFrom state) heard m each e
 
-        by-case : {k : Messages} → Carries (roundIn state) heard k → Takes state heard
+        by-case : {k : Messages} → Carries (roundOf state) heard k → Takes state heard
         by-case (none-sent nothing-there) = nothingHeard nothing-there
         by-case (data-sent v fits frames) =
-            by-equal (roundIn state) (stationIn state) (λ own. nothingHeard (t .own (own-round state own))) (λ other. dataHeard other v fits frames)
+            by-equal (roundOf state) (stationOf state) (λ own. nothingHeard (t .own (own-round state own))) (λ other. dataHeard other v fits frames)
         by-case (both-sent v fits frames) =
-            by-equal (roundIn state) (stationIn state) (λ own. nothingHeard (t .own (own-round state own))) (λ other. commitHeard other v fits frames)
+            by-equal (roundOf state) (stationOf state) (λ own. nothingHeard (t .own (own-round state own))) (λ other. commitHeard other v fits frames)
 
     no-messages : (Takes state heard → ⊥) → (m : Option Messages) → heardBy (stateFrom state) heard ≡ m → none ≡ m
     no-messages never none e = refl
@@ -157,7 +153,7 @@ module _ (state heard : List ℕ) where
 
     -- What is taken is heard.
     frames-taken : Takes state heard → (m : Messages) × (heardBy (stateFrom state) heard ≡ some m)
-    unfolding Carried framesOf stateFrom roundIn
+    unfolding Carried framesOf stateFrom roundOf
     frames-taken (nothingHeard silent) = (nothing, ap (heardBy (stateFrom state)) silent ∙ heard-frames (stateFrom state) nothing tt (λ z. refl))
     frames-taken (dataHeard other v fits frames) = (
       estimate v,
@@ -178,7 +174,7 @@ module _ (state heard : List ℕ) where
         omega (arith, z)
 
     close-answered : (answer : ℕ) (after : List ℕ) → Closes state heard answer after → (answer ≡ closeRefusal state heard) × (after ≡ closeState state heard)
-    unfolding Carried closedOn receives framesOf stateFrom stateBytes withRound stateAfter stationIn nIn tIn roundIn valueIn
+    unfolding Carried closedOn receives framesOf stateFrom stateBytes withRound stateAfter stationOf nOf tOf roundOf valueOf
     close-answered answer after (noState never) = close-refused state heard 10 (sym (refusal-10 state never)) (λ z. omega (arith, z))
     close-answered answer after (noOpenState valid marked) = close-refused state heard 11 (sym (refusal-11 state valid marked)) (λ z. omega (arith, z))
     close-answered answer after (notTaken opened never) =
@@ -186,7 +182,7 @@ module _ (state heard : List ℕ) where
     close-answered answer after (decidesOwn opened own silent) =
         close-on nothing after opened tt silent (λ z. refl) (rw (own-round state own) refl)
     close-answered answer after (keeps opened other silent goes) =
-        close-on nothing after opened tt silent (λ z. refl) (rw (others-round state other) (goes-on (valueIn state) after goes))
+        close-on nothing after opened tt silent (λ z. refl) (rw (others-round state other) (goes-on (valueOf state) after goes))
     close-answered answer after (adopts v opened other fits frames goes) =
         close-on (estimate v) after opened fits frames (λ own. absurd (true-false (sym own ∙ others-round state other)))
         (rw (others-round state other) (goes-on v after goes))
@@ -202,14 +198,14 @@ module _ (state heard : List ℕ) where
     on : (v : ℕ) → OpenState state → ((after : List ℕ) → GoesOn state v after → Closes state heard (closeRefusal state heard) (closeState state heard))
         → Closes state heard (closeRefusal state heard) (closeState state heard)
     on v opened step =
-        let small : markIn state ≤ 1 = omega (arith, opened .unmarked) in
+        let small : markOf state ≤ 1 = omega (arith, opened .unmarked) in
         let within = opened .valid .inRounds small in
-        by-order (roundIn state) (tIn state) (λ low. step _ (roundRises low)) (λ last. step _ (roundsOver (omega (arith, last, within .1))))
+        by-order (roundOf state) (tOf state) (λ low. step _ (roundRises low)) (λ last. step _ (roundsOver (omega (arith, last, within .1))))
 
     closes-taken : OpenState state → Takes state heard → Closes state heard (closeRefusal state heard) (closeState state heard)
     closes-taken opened (nothingHeard silent) =
-        by-equal (roundIn state) (stationIn state) (λ own. so (decidesOwn opened own silent))
-        (λ other. on (valueIn state) opened (λ after goes. so (keeps opened other silent goes)))
+        by-equal (roundOf state) (stationOf state) (λ own. so (decidesOwn opened own silent))
+        (λ other. on (valueOf state) opened (λ after goes. so (keeps opened other silent goes)))
     closes-taken opened (dataHeard other v fits frames) = on v opened (λ after goes. so (adopts v opened other fits frames goes))
     closes-taken opened (commitHeard other v fits frames) = so (decides v opened other fits frames)
 

@@ -7,13 +7,10 @@ use native.Mathlib.Omega.{arith}
 use borrow.Author.Tests.{eqb-true, ltb-true, eq-eqb, ne-eqb}
 use lib.Dec.{eqb, ltb}
 use lib.ListN.{length, getD}
-use Rattle.general.proofs.Tests.{both, by-order, by-equal}
+use Rattle.general.proofs.Tests.{true-false, both, by-order, by-equal}
 use Rattle.part_format.specs.PartState.{identityValid, roundValid, stateFrom, stateValid, stateRefusal}
 use Rattle.part_format.proofs.Valid.{Identity, identity-says, identity-holds, round-within, fields-say, within-valid, over-valid}
-use Rattle.part_laws.specs.ValidState.{stationIn, nIn, tIn, roundIn, markIn, Identified, ValidState, OpenState}
-
-pub true-false : true ≡ false → ⊥
-true-false e = let z : _≡_ {A = ℕ} 1 0 = cc in omega arith
+use Rattle.part_laws.specs.ValidState.{stationOf, nOf, tOf, roundOf, markOf, Identified, ValidState, OpenState}
 
 -- n, t and station.
 pub identified : (p n t : ℕ) → identityValid p n t ≡ true → Identified p n t
@@ -42,7 +39,7 @@ module _ (b : List ℕ) where
   sound = eqb (length b) 9 && stateValid (stateFrom b)
 
   sound-valid : sound ≡ true → ValidState b
-  unfolding sound stateValid stateFrom stationIn nIn tIn roundIn markIn
+  unfolding sound stateValid stateFrom stationOf nOf tOf roundOf markOf
   sound-valid e =
       let parts = both (eqb (length b) 9) (stateValid (stateFrom b)) e in
       let fields = fields-say (getD b 0 0) (getD b 1 0) (getD b 2 0) (getD b 3 0) (getD b 4 0) (parts .1) in
@@ -58,7 +55,7 @@ module _ (b : List ℕ) where
       }
 
   fields-valid : ValidState b → stateValid (stateFrom b) ≡ true
-  unfolding stateValid stateFrom stationIn nIn tIn roundIn markIn
+  unfolding stateValid stateFrom stationOf nOf tOf roundOf markOf
   fields-valid v =
       let i = identity-of _ _ _ (v .identified) in
       by-order (getD b 4 0) 1
@@ -83,19 +80,29 @@ module _ (b : List ℕ) where
       by-test true e = absurd (never (sound-valid e))
       by-test false e = refl
 
-  pub refusal-11 : ValidState b → (markIn b ≡ 0 → ⊥) → stateRefusal b ≡ 11
-  unfolding stateRefusal stateFrom markIn
+  pub refusal-11 : ValidState b → (markOf b ≡ 0 → ⊥) → stateRefusal b ≡ 11
+  unfolding stateRefusal stateFrom markOf
   refusal-11 v other = rw (eq-eqb (length b) 9 (v .nine), fields-valid v, ne-eqb (getD b 4 0) 0 other)
 
   pub refusal-none : OpenState b → stateRefusal b ≡ 0
-  unfolding stateRefusal stateFrom markIn
+  unfolding stateRefusal stateFrom markOf
   refusal-none o = rw (eq-eqb (length b) 9 (o .valid .nine), fields-valid (o .valid), eq-eqb (getD b 4 0) 0 (o .unmarked))
 
   -- A state is not valid, valid and not open, or open.
-  pub by-state : {C : Type 0} → ((ValidState b → ⊥) → C) → (ValidState b → (markIn b ≡ 0 → ⊥) → C) → (OpenState b → C) → C
+  pub by-state : {C : Type 0} → ((ValidState b → ⊥) → C) → (ValidState b → (markOf b ≡ 0 → ⊥) → C) → (OpenState b → C) → C
   by-state {C} invalid ended opened = by-test sound refl
     where
       by-test : (t : Bool) → sound ≡ t → C
       by-test true e =
-          by-equal (markIn b) 0 (λ zero. opened (record { valid = sound-valid e; unmarked = zero })) (λ other. ended (sound-valid e) other)
+          by-equal (markOf b) 0 (λ zero. opened (record { valid = sound-valid e; unmarked = zero })) (λ other. ended (sound-valid e) other)
       by-test false e = invalid (λ v. true-false (sym (valid-sound v) ∙ e))
+
+  -- A state that does not get 10 is valid, and one that gets it is not.
+  pub valid-state : (stateRefusal b ≡ 10 → ⊥) → ValidState b
+  valid-state other = by-state (λ invalid. absurd (other (refusal-10 invalid))) (λ valid marked. valid) (λ opened. opened .valid)
+
+  pub no-state : stateRefusal b ≡ 10 → ValidState b → ⊥
+  no-state e valid =
+      by-equal (markOf b) 0
+      (λ zero. omega (arith, e, refusal-none (record { valid = valid; unmarked = zero })))
+      (λ marked. omega (arith, e, refusal-11 valid marked))

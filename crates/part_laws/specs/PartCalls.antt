@@ -8,7 +8,7 @@ use Rattle.part_format.specs.Frame.{dataFrame, commitFrame}
 use Rattle.part_format.specs.Start.{startRefusal, startBytes}
 use Rattle.part_format.specs.Speak.{speakAnswer, speakOutput}
 use Rattle.part_format.specs.Close.{closeRefusal, closeState}
-use Rattle.part_laws.specs.ValidState.{stationIn, nIn, tIn, roundIn, markIn, valueIn, Identified, ValidState, OpenState}
+use Rattle.part_laws.specs.ValidState.{stationOf, nOf, tOf, roundOf, markOf, valueOf, Identified, ValidState, OpenState}
 
 -- Starting: station, n and t within the limits, and exactly nine bytes lent.
 pub record Startable (p n t : ℕ) (lent : List ℕ) : Type 0 where
@@ -23,41 +23,41 @@ pub data Starts (p n t v : ℕ) (lent : List ℕ) : (answer : ℕ) (after : List
 -- "Speaking yields data then commit (8 bytes) in the desk's own round, else no bytes"; the output behind them, and refused all of it, stays.
 pub data Speaks (state output : List ℕ) : (answer : ℕ) (after : List ℕ) → Type 0 where
   notValid : (ValidState state → ⊥) → Speaks state output 10 output
-  notOpen : ValidState state → (markIn state ≡ 0 → ⊥) → Speaks state output 11 output
-  tooShort : OpenState state → roundIn state ≡ stationIn state → length output < 8 → Speaks state output 9 output
-  inOwnRound : OpenState state → roundIn state ≡ stationIn state → 8 ≤ length output
-      → Speaks state output 8 (dataFrame (roundIn state) (valueIn state) ++ commitFrame (roundIn state) ++ drop 8 output)
-  inOthersRound : OpenState state → (roundIn state ≡ stationIn state → ⊥) → Speaks state output 0 output
+  notOpen : ValidState state → (markOf state ≡ 0 → ⊥) → Speaks state output 11 output
+  tooShort : OpenState state → roundOf state ≡ stationOf state → length output < 8 → Speaks state output 9 output
+  inOwnRound : OpenState state → roundOf state ≡ stationOf state → 8 ≤ length output
+      → Speaks state output 8 (dataFrame (roundOf state) (valueOf state) ++ commitFrame (roundOf state) ++ drop 8 output)
+  inOthersRound : OpenState state → (roundOf state ≡ stationOf state → ⊥) → Speaks state output 0 output
 
 -- "Closing a round takes what was heard: nothing, data, or data then commit", of this round; in its own round nothing.
 pub data Takes (state heard : List ℕ) : Type 0 where
   nothingHeard : heard ≡ [] → Takes state heard
-  dataHeard : (roundIn state ≡ stationIn state → ⊥) → (v : ℕ) → v < 2 ^ 32 → heard ≡ dataFrame (roundIn state) v → Takes state heard
-  commitHeard : (roundIn state ≡ stationIn state → ⊥) → (v : ℕ) → v < 2 ^ 32 → heard ≡ dataFrame (roundIn state) v ++ commitFrame (roundIn state)
+  dataHeard : (roundOf state ≡ stationOf state → ⊥) → (v : ℕ) → v < 2 ^ 32 → heard ≡ dataFrame (roundOf state) v → Takes state heard
+  commitHeard : (roundOf state ≡ stationOf state → ⊥) → (v : ℕ) → v < 2 ^ 32 → heard ≡ dataFrame (roundOf state) v ++ commitFrame (roundOf state)
       → Takes state heard
 
 -- The state with another round, mark and value.
 unfoldable pub withRound : (state : List ℕ) (round mark v : ℕ) → List ℕ
-withRound state round mark v = stationIn state ∷ nIn state ∷ tIn state ∷ round ∷ mark ∷ bytesOf 4 v
+withRound state round mark v = stationOf state ∷ nOf state ∷ tOf state ∷ round ∷ mark ∷ bytesOf 4 v
 
 -- "If it is still open, the round rises by one; after round t + 1 the mark becomes 02 and the round stays t + 1."
 pub data GoesOn (state : List ℕ) (v : ℕ) : (after : List ℕ) → Type 0 where
-  roundRises : roundIn state ≤ tIn state → GoesOn state v (withRound state (suc (roundIn state)) 0 v)
-  roundsOver : roundIn state ≡ suc (tIn state) → GoesOn state v (withRound state (suc (tIn state)) 2 v)
+  roundRises : roundOf state ≤ tOf state → GoesOn state v (withRound state (suc (roundOf state)) 0 v)
+  roundsOver : roundOf state ≡ suc (tOf state) → GoesOn state v (withRound state (suc (tOf state)) 2 v)
 
 -- "In its own round a desk closes on nothing and decides. Otherwise it keeps its value, adopts, or adopts and decides"; "a decided desk keeps its deciding
 -- round"; refused, the state is unchanged.
 pub data Closes (state heard : List ℕ) : (answer : ℕ) (after : List ℕ) → Type 0 where
   noState : (ValidState state → ⊥) → Closes state heard 10 state
-  noOpenState : ValidState state → (markIn state ≡ 0 → ⊥) → Closes state heard 11 state
+  noOpenState : ValidState state → (markOf state ≡ 0 → ⊥) → Closes state heard 11 state
   notTaken : OpenState state → (Takes state heard → ⊥) → Closes state heard 12 state
-  decidesOwn : OpenState state → roundIn state ≡ stationIn state → heard ≡ [] → Closes state heard 0 (withRound state (roundIn state) 1 (valueIn state))
-  keeps : {after : List ℕ} → OpenState state → (roundIn state ≡ stationIn state → ⊥) → heard ≡ [] → GoesOn state (valueIn state) after
+  decidesOwn : OpenState state → roundOf state ≡ stationOf state → heard ≡ [] → Closes state heard 0 (withRound state (roundOf state) 1 (valueOf state))
+  keeps : {after : List ℕ} → OpenState state → (roundOf state ≡ stationOf state → ⊥) → heard ≡ [] → GoesOn state (valueOf state) after
       → Closes state heard 0 after
-  adopts : {after : List ℕ} (v : ℕ) → OpenState state → (roundIn state ≡ stationIn state → ⊥) → v < 2 ^ 32 → heard ≡ dataFrame (roundIn state) v
+  adopts : {after : List ℕ} (v : ℕ) → OpenState state → (roundOf state ≡ stationOf state → ⊥) → v < 2 ^ 32 → heard ≡ dataFrame (roundOf state) v
       → GoesOn state v after → Closes state heard 0 after
-  decides : (v : ℕ) → OpenState state → (roundIn state ≡ stationIn state → ⊥) → v < 2 ^ 32
-      → heard ≡ dataFrame (roundIn state) v ++ commitFrame (roundIn state) → Closes state heard 0 (withRound state (roundIn state) 1 v)
+  decides : (v : ℕ) → OpenState state → (roundOf state ≡ stationOf state → ⊥) → v < 2 ^ 32
+      → heard ≡ dataFrame (roundOf state) v ++ commitFrame (roundOf state) → Closes state heard 0 (withRound state (roundOf state) 1 v)
 
 -- The claim: each call answers and leaves just what these words give. (What is heard are bytes.)
 pub record PartCalls : Type 0 where

@@ -8,23 +8,23 @@ use Rattle.general.specs.BigEndian.{number}
 use Rattle.consensus.specs.Limits.{Limits}
 
 -- The fields.
-unfoldable pub stationIn : List ℕ → ℕ
-stationIn b = getD b 0 0
+unfoldable pub stationOf : List ℕ → ℕ
+stationOf b = getD b 0 0
 
-unfoldable pub nIn : List ℕ → ℕ
-nIn b = getD b 1 0
+unfoldable pub nOf : List ℕ → ℕ
+nOf b = getD b 1 0
 
-unfoldable pub tIn : List ℕ → ℕ
-tIn b = getD b 2 0
+unfoldable pub tOf : List ℕ → ℕ
+tOf b = getD b 2 0
 
-unfoldable pub roundIn : List ℕ → ℕ
-roundIn b = getD b 3 0
+unfoldable pub roundOf : List ℕ → ℕ
+roundOf b = getD b 3 0
 
-unfoldable pub markIn : List ℕ → ℕ
-markIn b = getD b 4 0
+unfoldable pub markOf : List ℕ → ℕ
+markOf b = getD b 4 0
 
-unfoldable pub valueIn : List ℕ → ℕ
-valueIn b = number (drop 5 b)
+unfoldable pub valueOf : List ℕ → ℕ
+valueOf b = number (drop 5 b)
 
 -- n, t and station are within the limits.
 pub record Identified (p n t : ℕ) : Type 0 where
@@ -35,14 +35,14 @@ pub record Identified (p n t : ℕ) : Type 0 where
 -- What escapes refusal 10.
 pub record ValidState (b : List ℕ) : Type 0 where
   pub nine : length b ≡ 9
-  pub identified : Identified (stationIn b) (nIn b) (tIn b)
-  pub mark : markIn b ≤ 2
+  pub identified : Identified (stationOf b) (nOf b) (tOf b)
+  pub mark : markOf b ≤ 2
   -- mark 00 or 01: a round from 1 to t + 1 that is not above the station
-  pub inRounds : markIn b ≤ 1 → (1 ≤ roundIn b) × (roundIn b ≤ suc (tIn b)) × (roundIn b ≤ stationIn b)
+  pub inRounds : markOf b ≤ 1 → (1 ≤ roundOf b) × (roundOf b ≤ suc (tOf b)) × (roundOf b ≤ stationOf b)
   -- mark 02: round = t + 1 < station
-  pub afterRounds : markIn b ≡ 2 → (roundIn b ≡ suc (tIn b)) × (suc (tIn b) < stationIn b)
+  pub afterRounds : markOf b ≡ 2 → (roundOf b ≡ suc (tOf b)) × (suc (tOf b) < stationOf b)
 
 -- What escapes refusal 11 too: mark 00.
 pub record OpenState (b : List ℕ) : Type 0 where
   pub valid : ValidState b
-  pub unmarked : markIn b ≡ 0
+  pub unmarked : markOf b ≡ 0

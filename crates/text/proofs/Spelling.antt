@@ -10,7 +10,7 @@ use lib.ListN.{length, length-append, length-map}
 use lib.Seq.{append-snoc}
 use Rattle.general.specs.Indexed.{mapFrom}
 use Rattle.general.specs.Table.{tabulate}
-use Rattle.general.proofs.Tests.{by-order}
+use Rattle.general.proofs.Tests.{true-false, by-order}
 use Rattle.general.proofs.Table.{entries-same}
 use Rattle.general.proofs.Bytes.{Bytes, below-snoc}
 use Rattle.text.specs.Digit.{digitValue, isDigit}
@@ -46,9 +46,6 @@ written-so c = cond (isDigit c) (eqb (capital c) (digitOf (digitValue c))) true
 all-written-so : (c : ℕ) → c < 256 → written-so c ≡ true
 unfolding written-so tabulate mapFrom isDigit digitValue capital digitOf
 all-written-so c h = entries-same 256 c true h written-so (λ (d : ℕ). true) refl
-
-true-false : true ≡ false → ⊥
-true-false e = let z : _≡_ {A = ℕ} 1 0 = cc in omega arith
 
 pub digit-capital : (c : ℕ) → isDigit c ≡ true → capital c ≡ digitOf (digitValue c)
 unfolding written-so

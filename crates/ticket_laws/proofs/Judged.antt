@@ -9,6 +9,7 @@ use borrow.Author.Tests.{eqb-true, eqb-false}
 use lib.Dec.{eqb}
 use lib.ListN.{length, getD, length-append}
 use lib.Seq.{getD-at}
+use Rattle.general.proofs.Tests.{true-false}
 use Rattle.consensus.specs.Instance.{Instance}
 use Rattle.consensus.specs.Limits.{Limits}
 use Rattle.consensus.proofs.Limits.{limits-hold, limits-pass}
@@ -25,7 +26,7 @@ use Rattle.ticket_laws.specs.FirstWrong.{InPlace, Suited, Applies, notHe
 use Rattle.ticket_format.proofs.LineCases.{HeaderWrong, noHeader, outsideLimits, HeaderCase, limitsSaid, headerRefused, header-case, CrashPasses}
 use Rattle.ticket_format.proofs.LineCases.{LineWrong, noProposal, otherStation, noFailureOrEnd, failuresOver, misplaced, unsuited, afterEnd}
 use Rattle.ticket_format.proofs.LineCases.{LineCase, proposalSaid, crashSaid, endSaid, lineRefused, line-case}
-use Rattle.ticket_laws.proofs.Wording.{true-false, is-kind, no-kind, LastLine, noFailure, failure, not-over, in-place, not-in-place, suited, not-suited}
+use Rattle.ticket_laws.proofs.Wording.{is-kind, no-kind, LastLine, noFailure, failure, not-over, in-place, not-in-place, suited, not-suited}
 
 -- The first line says the n and the t of the instance.
 pub record Opens (before : List (List ℕ)) (x : Instance) : Type 0 where

@@ -7,15 +7,12 @@ use native.Mathlib.Omega.{arith}
 use borrow.Author.Tests.{eqb-true, eqb-false, leb-true, ltb-true, eq-eqb, le-leb, lt-ltb}
 use lib.Dec.{eqb, ltb, leb}
 use lib.ListN.{length, getD}
-use Rattle.general.proofs.Tests.{both}
+use Rattle.general.proofs.Tests.{true-false, both}
 use Rattle.general.proofs.Between.{between-members, members-between}
 use Rattle.ticket_format.specs.FailureLine.{placesCrash, allBetween, suitsStep}
 use Rattle.ticket_format.specs.Says.{isKind, failureLine}
 use Rattle.ticket_laws.specs.FirstWrong.{kindIn, stationIn, roundIn, stepIn, setIn, countIn, nIn, tIn, lastOf, InPlace, Suited}
 use Rattle.ticket_format.proofs.CrashPlaced.{crash-placed}
-
-pub true-false : true ≡ false → ⊥
-true-false e = let z : _≡_ {A = ℕ} 1 0 = cc in omega arith
 
 -- Kind and length.
 module _ (kind size : ℕ) (b : List ℕ) where
