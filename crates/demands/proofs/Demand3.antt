@@ -15,8 +15,9 @@ use Rattle.coordinator_laws.proofs.Ends.{ends-in-order}
 use Rattle.ticket_laws.proofs.WellFormed.{accepted-well-formed}
 use Rattle.demands.specs.OutputSays.{Counts, OutputSays, countsOf}
 use Rattle.demands.specs.Written.{Wrote}
-use Rattle.demands.specs.Demand3.{RoundsClaim, InstancesClaim, OutputClaim, Demand3}
+use Rattle.demands.specs.Demand3.{RoundsClaim, InstancesClaim, TicketsPaired, OutputClaim, Demand3}
 use Rattle.demands.proofs.PairedTexts.{texts-paired}
+use Rattle.demands.proofs.PairedTickets.{tickets-paired}
 use Rattle.demands.proofs.Demand2.{demand-2}
 
 rounds-claim : RoundsClaim
@@ -78,5 +79,9 @@ instances-claim : InstancesClaim
 unfolding InstancesClaim
 instances-claim a b x y pair = no-later x y (accepted-well-formed _ x (pair .first)) (accepted-well-formed _ y (pair .second)) (pair .paired)
 
+paired-tickets : TicketsPaired
+unfolding TicketsPaired
+paired-tickets = tickets-paired
+
 pub demand-3 : Demand3
-demand-3 = record { rounds = rounds-claim; instances = instances-claim; outputs = output-claim }
+demand-3 = record { rounds = rounds-claim; instances = instances-claim; tickets = paired-tickets; outputs = output-claim }

@@ -5,6 +5,7 @@ pub mod Written
 pub mod PairedFaults
 pub mod AcceptedLine
 pub mod PairedTexts
+pub mod PairedTickets
 pub mod PartsClaim
 pub mod SchedulesClaim
 pub mod Demand1

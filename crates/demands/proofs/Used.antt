@@ -1,8 +1,25 @@
--- The claims, used on the witnesses. Assumes nothing.
+-- The claims, used on the largest ticket and on the witnesses. Assumes nothing.
+use mathlib.Core.List.{List, [], _∷_}
+use mathlib.Core.Path.{_≡_, refl, ap}
+use Prim.Native.Nat.{ℕ, _≤_}
 use native.Mathlib.Omega.{arith}
+use lib.ListN.{getD, replicate}
+use Rattle.consensus.specs.Instance.{Instance}
 use Rattle.answers.proofs.LetteringCases.{lettering-cases}
 use Rattle.demands.specs.Witnesses.{crashText, mixedText, laterText}
-use Rattle.demands.specs.Used.{ClaimsUsed}
+use Rattle.demands.specs.Used.{FullestMet, lastState, UsedOnFullest, ClaimsUsed}
+use Rattle.consensus.specs.Consensus.{IsProcess}
+use Rattle.coordinator.specs.Run.{endOf}
+use Rattle.text.specs.Line.{Line, linesOf}
+use Rattle.ticket_format.specs.Reading.{Reading, accepted, refused}
+use Rattle.ticket_format.specs.Ticket.{readTicket}
+use Rattle.ticket_format.specs.ReadingCases.{fullest, limitsOf}
+use Rattle.ticket_format.proofs.ReadingCases.{reading-cases}
+use Rattle.answers.specs.Running.{programWrites}
+use Rattle.demands.specs.OutputSays.{OutputSays, countsOf}
+use Rattle.demands.specs.Written.{Wrote}
+use Rattle.demands.specs.PairedTexts.{PairedLines, noLines, sameLine, PairedTexts}
+use Rattle.demands.proofs.BoundClaim.{bound-claim}
 use Rattle.demands.proofs.Demand1.{demand-1}
 use Rattle.demands.proofs.Demand2.{demand-2}
 use Rattle.demands.proofs.Demand3.{demand-3}
@@ -15,6 +32,63 @@ use Rattle.demands.proofs.SettlingClaim.{settling-claim}
 use Rattle.demands.proofs.ReasonClaim.{reason-claim}
 use Rattle.demands.proofs.QuoteClaim.{quote-claim}
 use Rattle.demands.proofs.Witnesses.{witnesses}
+
+-- The largest ticket is accepted.
+no-limits : _≡_ {A = List ℕ} [] (64 ∷ 63 ∷ []) → ⊥
+no-limits e = let z : _≡_ {A = ℕ} 0 64 = ap (λ (l : List ℕ). getD l 0 0) e in omega (arith, z)
+
+met-as : (reading : Reading Instance) → readTicket fullest ≡ reading → limitsOf reading ≡ 64 ∷ 63 ∷ [] → FullestMet
+unfolding limitsOf
+met-as (accepted x) e limits =
+    record {
+      instance = x;
+      read = e;
+      processes = ap (λ (l : List ℕ). getD l 0 0) limits;
+      resilience = ap (λ (l : List ℕ). getD l 1 0) limits;
+    }
+met-as (refused refusal line) e limits = absurd (no-limits limits)
+
+pub fullest-met : FullestMet
+fullest-met = met-as (readTicket fullest) refl (reading-cases .fullestPasses)
+
+-- A text is paired with itself.
+paired-self : (lines : List Line) → PairedLines lines lines
+paired-self [] = noLines
+paired-self (line ∷ lines) = sameLine (paired-self lines)
+
+module _ (f : FullestMet) where
+  fullest-wrote : Wrote fullest (f .instance) (programWrites fullest)
+  fullest-wrote = demand-2 .written .byProgram fullest (f .instance) (f .read)
+
+  fullest-says : OutputSays (f .instance) (programWrites fullest) (endOf (f .instance)) (countsOf (f .instance))
+  fullest-says = demand-2 .result fullest (f .instance) (programWrites fullest) fullest-wrote
+
+  fullest-paired : PairedTexts fullest fullest
+  unfolding PairedTexts
+  fullest-paired = paired-self (linesOf fullest)
+
+  process : (p : ℕ) → 1 ≤ p → p ≤ 64 → IsProcess (f .instance) p
+  process p first last = record { first = first; last = omega (arith, last, f .processes) }
+
+  pub used-on-fullest : UsedOnFullest f
+  used-on-fullest =
+      record {
+        judged = demand-1 .texts .each fullest;
+        cut = demand-1 .lines .only fullest;
+        started = demand-1 .calls .starting 64 64 63 4294967295 (replicate 9 0);
+        spoken = demand-1 .calls .speaking lastState (replicate 64 0);
+        closed = demand-1 .calls .closing lastState [] (λ i. omega arith);
+        consensus = demand-3 .rounds .consensus fullest (f .instance) (f .read);
+        counted = demand-3 .rounds .crashes fullest (f .instance) (f .read);
+        saidNoLater =
+            demand-3 .outputs .noLater fullest fullest (f .instance) (f .instance) (programWrites fullest) (programWrites fullest) _ _ _ _ fullest-wrote
+            fullest-wrote fullest-says fullest-says fullest-paired;
+        bounded = bound-claim .said fullest (f .instance) (programWrites fullest) _ fullest-wrote (fullest-says .last);
+        reason = λ r round. reason-claim .called fullest (f .instance) 64 r _ (f .read) (process 64 (omega arith) (omega arith)) round refl;
+        quotes = λ a b.
+            quote-claim .ownCalled fullest (f .instance) _ 1 2 1 64 7 7 a b (f .read) (process 1 (omega arith) (omega arith))
+            (process 64 (omega arith) (omega arith)) (omega (arith, f .resilience)) (omega (arith, f .resilience));
+      }
 
 pub claims-used : ClaimsUsed witnesses
 unfolding crashText mixedText

@@ -22,12 +22,12 @@ use Rattle.part_format.specs.Refused.{RefusedCallsChangeNothing, SpeakAnswersAp
 use Rattle.part_laws.specs.PartCalls.{PartCalls}
 use Rattle.answers.specs.Code.{refusalsFrom, refusalCode, RunCall, numberCode}
 
--- Running a text into a buffer of `room` bytes is refused with this number and line: for its first wrong line, or, with 9 and no line, for want of room.
+-- Running a text into a buffer of `room` bytes is refused with this number and line. The cause is its first wrong line; or, with 9 and no line, want of room.
 pub data RunRefused (text : List ℕ) (room : ℕ) : (refusal line : ℕ) → Type 0 where
   wrong : {refusal line : ℕ} → FirstWrong text refusal line → RunRefused text room refusal line
   tooShort : (x : Instance) → readTicket text ≡ accepted x → room < resultSize (x .processes) → RunRefused text room 9 0
 
--- What the call of running answers, and what the buffer holds afterwards: the size of the result, which stands at its front, and behind it what stood
+-- What the call of running answers, and what the buffer holds afterwards. It is the size of the result, which stands at the front, and after it what stood
 -- there; or a refusal, and all as it was.
 pub data RunAnswered (text before after : List ℕ) (code : ℕ) : Type 0 where
   result : (x : Instance) → readTicket text ≡ accepted x → resultSize (x .processes) ≤ length before → code ≡ resultSize (x .processes) → code < refusalsFrom

@@ -9,7 +9,9 @@ use Rattle.consensus.specs.State.{State}
 use Rattle.coordinator.specs.Run.{crashesOf, endOf, latestOf}
 use Rattle.consensus.specs.CrashCount.{crashedCount}
 use Rattle.consensus.specs.Consensus.{UniformConsensus, CountsCrashes, NoLater, endsOf}
+use Rattle.coordinator.specs.WellFormed.{WellFormed}
 use Rattle.coordinator_laws.specs.Pairing.{Paired}
+use Rattle.ticket_laws.specs.TicketText.{ticketText}
 use Rattle.ticket_format.specs.Reading.{accepted}
 use Rattle.ticket_format.specs.Ticket.{readTicket}
 use Rattle.demands.specs.OutputSays.{Counts, OutputSays}
@@ -35,6 +37,10 @@ pub record PairedInstances (a b : List ℕ) (x y : Instance) : Type 0 where
 unfoldable pub InstancesClaim : Type 0
 InstancesClaim = (a b : List ℕ) (x y : Instance) → PairedInstances a b x y → NoLater x (endOf x) y (endOf y)
 
+-- The tickets of two well-formed instances that are paired are paired line by line.
+unfoldable pub TicketsPaired : Type 0
+TicketsPaired = (x y : Instance) → WellFormed x → WellFormed y → Paired x y → PairedTexts (ticketText x) (ticketText y)
+
 -- Of the ends and the f that the bytes of a result say, wherever running writes one; and of every two results whose texts are paired.
 pub record OutputClaim : Type 0 where
   pub consensus : (text : List ℕ) (x : Instance) (out : List ℕ) (ends : ℕ → State) (counts : Counts) → Wrote text x out → OutputSays x out ends counts
@@ -51,4 +57,5 @@ pub record OutputClaim : Type 0 where
 pub record Demand3 : Type 0 where
   pub rounds : RoundsClaim
   pub instances : InstancesClaim
+  pub tickets : TicketsPaired
   pub outputs : OutputClaim

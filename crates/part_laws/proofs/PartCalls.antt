@@ -19,13 +19,15 @@ use Rattle.part_format.specs.Start.{startState, startRefusal, startBytes}
 use Rattle.part_format.specs.Speak.{spokenBy, speakRefusal, speakYields, speakAnswer, speakOutput}
 use Rattle.part_format.specs.Close.{stateAfter, closedOn, closeRefusal, closeState}
 use Rattle.part_format.proofs.Valid.{identity-holds}
+use Rattle.part_format.proofs.ValidBytes.{valid-taken}
+use Rattle.part_format.proofs.Leaves.{leaves-valid}
 use Rattle.part_format.proofs.Carried.{Carried}
 use Rattle.part_format.proofs.RoundTrip.{heard-frames}
 use Rattle.part_format.proofs.Operations.{close-refused, close-no-form, close-closed}
-use Rattle.part_laws.specs.ValidState.{stationOf, nOf, tOf, roundOf, markOf, valueOf, OpenState}
-use Rattle.part_laws.specs.PartCalls.{Startable, Starts, outside, started, Speaks, notValid, notOpen, tooShort, inOwnRound, inOthersRound, Takes, nothingHeard, dataHeard}
+use Rattle.part_laws.specs.ValidState.{stationOf, nOf, tOf, roundOf, markOf, valueOf, ValidState, OpenState}
+use Rattle.part_laws.specs.PartCalls.{dataBytes, commitBytes, Startable, Starts, outside, started, Speaks, notValid, notOpen, tooShort, inOwnRound, inOthersRound, Takes, nothingHeard, dataHeard}
 use Rattle.part_laws.specs.PartCalls.{commitHeard, withRound, GoesOn, roundRises, roundsOver, Closes, noState, noOpenState, notTaken, decidesOwn, keeps, adopts, decides, PartCalls}
-use Rattle.part_laws.proofs.ValidState.{identified, identity-of, refusal-10, refusal-11, refusal-none, by-state}
+use Rattle.part_laws.proofs.ValidState.{identified, identity-of, refusal-10, refusal-11, refusal-none, by-state, valid-state, open-state}
 use Rattle.part_laws.proofs.Heard.{Carries, none-sent, data-sent, both-sent, Taken, taken}
 
 -- ---- starting
@@ -86,7 +88,7 @@ module _ (state output : List ℕ) where
 
   speak-answered : (answer : ℕ) (after : List ℕ) → Speaks state output answer after
       → (answer ≡ speakAnswer state (length output)) × (after ≡ speakOutput state output)
-  unfolding speakAnswer speakOutput speakYields speakRefusal spokenBy sends framesOf dataFrame commitFrame bytesOf stateFrom roundOf valueOf
+  unfolding speakAnswer speakOutput speakYields speakRefusal spokenBy sends framesOf dataFrame commitFrame dataBytes commitBytes bytesOf stateFrom roundOf valueOf
   speak-answered answer after (notValid never) =
       speak-refused 10 (state-refused 10 (refusal-10 state never) (λ z. omega (arith, z))) (λ z. omega (arith, z))
   speak-answered answer after (notOpen valid marked) =
@@ -134,7 +136,7 @@ module _ (state heard : List ℕ) where
   module _ (each : Bytes heard) where
     -- Bytes that are taken carry messages, and those that are not carry none.
     takes : (m : Messages) → heardBy (stateFrom state) heard ≡ some m → Takes state heard
-    unfolding stateFrom roundOf
+    unfolding stateFrom roundOf dataFrame commitFrame dataBytes commitBytes
     takes m e = by-case (t .carries)
       where
         t : Taken (stateFrom state) heard m
@@ -153,7 +155,7 @@ module _ (state heard : List ℕ) where
 
     -- What is taken is heard.
     frames-taken : Takes state heard → (m : Messages) × (heardBy (stateFrom state) heard ≡ some m)
-    unfolding Carried framesOf stateFrom roundOf
+    unfolding Carried framesOf dataFrame commitFrame dataBytes commitBytes stateFrom roundOf
     frames-taken (nothingHeard silent) = (nothing, ap (heardBy (stateFrom state)) silent ∙ heard-frames (stateFrom state) nothing tt (λ z. refl))
     frames-taken (dataHeard other v fits frames) = (
       estimate v,
@@ -174,7 +176,7 @@ module _ (state heard : List ℕ) where
         omega (arith, z)
 
     close-answered : (answer : ℕ) (after : List ℕ) → Closes state heard answer after → (answer ≡ closeRefusal state heard) × (after ≡ closeState state heard)
-    unfolding Carried closedOn receives framesOf stateFrom stateBytes withRound stateAfter stationOf nOf tOf roundOf valueOf
+    unfolding Carried closedOn receives framesOf dataFrame commitFrame dataBytes commitBytes stateFrom stateBytes withRound stateAfter stationOf nOf tOf roundOf valueOf
     close-answered answer after (noState never) = close-refused state heard 10 (sym (refusal-10 state never)) (λ z. omega (arith, z))
     close-answered answer after (noOpenState valid marked) = close-refused state heard 11 (sym (refusal-11 state valid marked)) (λ z. omega (arith, z))
     close-answered answer after (notTaken opened never) =
@@ -219,6 +221,21 @@ module _ (state heard : List ℕ) where
         by-state state (λ never. so (noState never)) (λ valid marked. so (noOpenState valid marked))
         (λ opened. closes-open opened (heardBy (stateFrom state) heard) refl)
 
+-- ---- what is left
+
+start-leaves-open : (p n t v : ℕ) (lent after : List ℕ) → Starts p n t v lent 0 after → OpenState after
+start-leaves-open p n t v lent after h =
+    let same = start-answered p n t v lent 0 after h in
+    let taken : startRefusal p n t lent ≡ 0 = sym (same .0) in
+    rw (same .1) (open-state (startBytes p n t v lent) (leaves-valid .openAfterStart p n t v lent (record { isZero = taken })))
+
+close-leaves-valid : (state heard after : List ℕ) → Bytes heard → Closes state heard 0 after → ValidState after
+close-leaves-valid state heard after each h =
+    let same = close-answered state heard each 0 after h in
+    let taken : closeRefusal state heard ≡ 0 = sym (same .0) in
+    rw (same .1)
+    (valid-state (closeState state heard) (valid-taken (closeState state heard) (leaves-valid .afterClose state heard (record { isZero = taken }))))
+
 -- ---- the claim
 
 pub part-calls : PartCalls
@@ -230,4 +247,6 @@ part-calls =
       speakingOnly = λ answer state output after h. speak-answered state output answer after h;
       closing = closes;
       closingOnly = λ answer state heard after each h. close-answered state heard each answer after h;
+      startLeaves = start-leaves-open;
+      closeLeaves = close-leaves-valid;
     }

@@ -106,3 +106,9 @@ module _ (b : List ℕ) where
       by-equal (markOf b) 0
       (λ zero. omega (arith, e, refusal-none (record { valid = valid; unmarked = zero })))
       (λ marked. omega (arith, e, refusal-11 valid marked))
+
+  -- One that is not refused is open.
+  pub open-state : stateRefusal b ≡ 0 → OpenState b
+  open-state e =
+      by-state (λ invalid. absurd (let z : ⊥ = omega (arith, e, refusal-10 invalid) in z))
+      (λ valid marked. absurd (let z : ⊥ = omega (arith, e, refusal-11 valid marked) in z)) (λ opened. opened)

@@ -4,11 +4,17 @@ use mathlib.Core.Path.{_≡_}
 use Prim.Native.Nat.{ℕ, suc, _^_, _≤_, _<_}
 use lib.ListN.{length, getD, drop}
 use Rattle.general.specs.BigEndian.{bytesOf}
-use Rattle.part_format.specs.Frame.{dataFrame, commitFrame}
 use Rattle.part_format.specs.Start.{startRefusal, startBytes}
 use Rattle.part_format.specs.Speak.{speakAnswer, speakOutput}
 use Rattle.part_format.specs.Close.{closeRefusal, closeState}
 use Rattle.part_laws.specs.ValidState.{stationOf, nOf, tOf, roundOf, markOf, valueOf, Identified, ValidState, OpenState}
+
+-- "Frames: 21, round, value for data; 22, round for commit." (Numbers in frames are hexadecimal; the value has four bytes.)
+unfoldable pub dataBytes : (round v : ℕ) → List ℕ
+dataBytes round v = 0x21 ∷ round ∷ bytesOf 4 v
+
+unfoldable pub commitBytes : (round : ℕ) → List ℕ
+commitBytes round = 0x22 ∷ round ∷ []
 
 -- Starting: station, n and t within the limits, and exactly nine bytes lent.
 pub record Startable (p n t : ℕ) (lent : List ℕ) : Type 0 where
@@ -26,14 +32,14 @@ pub data Speaks (state output : List ℕ) : (answer : ℕ) (after : List ℕ) �
   notOpen : ValidState state → (markOf state ≡ 0 → ⊥) → Speaks state output 11 output
   tooShort : OpenState state → roundOf state ≡ stationOf state → length output < 8 → Speaks state output 9 output
   inOwnRound : OpenState state → roundOf state ≡ stationOf state → 8 ≤ length output
-      → Speaks state output 8 (dataFrame (roundOf state) (valueOf state) ++ commitFrame (roundOf state) ++ drop 8 output)
+      → Speaks state output 8 (dataBytes (roundOf state) (valueOf state) ++ commitBytes (roundOf state) ++ drop 8 output)
   inOthersRound : OpenState state → (roundOf state ≡ stationOf state → ⊥) → Speaks state output 0 output
 
 -- "Closing a round takes what was heard: nothing, data, or data then commit", of this round; in its own round nothing.
 pub data Takes (state heard : List ℕ) : Type 0 where
   nothingHeard : heard ≡ [] → Takes state heard
-  dataHeard : (roundOf state ≡ stationOf state → ⊥) → (v : ℕ) → v < 2 ^ 32 → heard ≡ dataFrame (roundOf state) v → Takes state heard
-  commitHeard : (roundOf state ≡ stationOf state → ⊥) → (v : ℕ) → v < 2 ^ 32 → heard ≡ dataFrame (roundOf state) v ++ commitFrame (roundOf state)
+  dataHeard : (roundOf state ≡ stationOf state → ⊥) → (v : ℕ) → v < 2 ^ 32 → heard ≡ dataBytes (roundOf state) v → Takes state heard
+  commitHeard : (roundOf state ≡ stationOf state → ⊥) → (v : ℕ) → v < 2 ^ 32 → heard ≡ dataBytes (roundOf state) v ++ commitBytes (roundOf state)
       → Takes state heard
 
 -- The state with another round, mark and value.
@@ -54,12 +60,12 @@ pub data Closes (state heard : List ℕ) : (answer : ℕ) (after : List ℕ) →
   decidesOwn : OpenState state → roundOf state ≡ stationOf state → heard ≡ [] → Closes state heard 0 (withRound state (roundOf state) 1 (valueOf state))
   keeps : {after : List ℕ} → OpenState state → (roundOf state ≡ stationOf state → ⊥) → heard ≡ [] → GoesOn state (valueOf state) after
       → Closes state heard 0 after
-  adopts : {after : List ℕ} (v : ℕ) → OpenState state → (roundOf state ≡ stationOf state → ⊥) → v < 2 ^ 32 → heard ≡ dataFrame (roundOf state) v
+  adopts : {after : List ℕ} (v : ℕ) → OpenState state → (roundOf state ≡ stationOf state → ⊥) → v < 2 ^ 32 → heard ≡ dataBytes (roundOf state) v
       → GoesOn state v after → Closes state heard 0 after
   decides : (v : ℕ) → OpenState state → (roundOf state ≡ stationOf state → ⊥) → v < 2 ^ 32
-      → heard ≡ dataFrame (roundOf state) v ++ commitFrame (roundOf state) → Closes state heard 0 (withRound state (roundOf state) 1 v)
+      → heard ≡ dataBytes (roundOf state) v ++ commitBytes (roundOf state) → Closes state heard 0 (withRound state (roundOf state) 1 v)
 
--- The claim: each call answers and leaves just what these words give. (What is heard are bytes.)
+-- The claim: each call answers and leaves exactly what these words give. What is heard is premised to be bytes, each below 256.
 pub record PartCalls : Type 0 where
   pub starting : (p n t v : ℕ) (lent : List ℕ) → Starts p n t v lent (startRefusal p n t lent) (startBytes p n t v lent)
   pub startingOnly : (p n t v answer : ℕ) (lent after : List ℕ) → Starts p n t v lent answer after
@@ -70,3 +76,6 @@ pub record PartCalls : Type 0 where
   pub closing : (state heard : List ℕ) → ((i : ℕ) → getD heard i 0 < 256) → Closes state heard (closeRefusal state heard) (closeState state heard)
   pub closingOnly : (answer : ℕ) (state heard after : List ℕ) → ((i : ℕ) → getD heard i 0 < 256) → Closes state heard answer after
       → (answer ≡ closeRefusal state heard) × (after ≡ closeState state heard)
+  -- what a call that is not refused leaves is a valid state again, and after a start it is open
+  pub startLeaves : (p n t v : ℕ) (lent after : List ℕ) → Starts p n t v lent 0 after → OpenState after
+  pub closeLeaves : (state heard after : List ℕ) → ((i : ℕ) → getD heard i 0 < 256) → Closes state heard 0 after → ValidState after

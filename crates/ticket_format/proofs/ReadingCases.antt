@@ -17,8 +17,8 @@ use Rattle.text.specs.HexText.{digitOf, hexDigits, hexLine, hexLines}
 use Rattle.text.specs.TextOf.{textOf}
 use Rattle.ticket_format.specs.Openings.{opening, afterOpening, opening64}
 use Rattle.ticket_format.specs.ReadingCases.{verdictOf, tooLong, notLines, smallLetters, wrongKinds, limits, stations, tooMany}
-use Rattle.ticket_format.specs.ReadingCases.{places, steps, firstRules, readingRows, fullest, ReadingCases}
+use Rattle.ticket_format.specs.ReadingCases.{places, steps, firstRules, readingRows, fullest, limitsOf, ReadingCases}
 
 pub reading-cases : ReadingCases
-unfolding digitOf hexDigits hexLine hexLines opening64 fullest tabulate mapFrom readingRows tooLong notLines smallLetters wrongKinds limits stations tooMany places steps firstRules verdictOf opening afterOpening textOf ascii number numberFrom pointFrom withinLimits digitValue isDigit scan closed unclosed linesFrom linesOf proceed readFrom isKind headerSays afterProposal proposalSays failureLine placesCrash allBetween suitsStep crashSays failureSays lineSays unproposed withProposal withCrash begin store accept atEnd readTicket
-reading-cases = record { rows = refl; answered = refl; closing = refl; kinds = refl; fullestPasses = refl }
+unfolding limitsOf digitOf hexDigits hexLine hexLines opening64 fullest tabulate mapFrom readingRows tooLong notLines smallLetters wrongKinds limits stations tooMany places steps firstRules verdictOf opening afterOpening textOf ascii number numberFrom pointFrom withinLimits digitValue isDigit scan closed unclosed linesFrom linesOf proceed readFrom isKind headerSays afterProposal proposalSays failureLine placesCrash allBetween suitsStep crashSays failureSays lineSays unproposed withProposal withCrash begin store accept atEnd readTicket
+reading-cases = record { rows = refl; answered = refl; closing = refl; kinds = refl; fullestPasses = refl; fullestLength = refl }

@@ -6,6 +6,7 @@ use Prim.Native.Nat.{ℕ, _+_}
 use lib.ListN.{length, replicate}
 use Rattle.general.specs.Table.{tabulate}
 use Rattle.general.specs.Text.{ascii}
+use Rattle.consensus.specs.Instance.{Instance}
 use Rattle.ticket_format.specs.Reading.{Reading, accepted, refused}
 use Rattle.ticket_format.specs.Ticket.{readTicket}
 use Rattle.text.specs.HexText.{hexLine, hexLines}
@@ -179,9 +180,14 @@ firstRules =
 unfoldable pub readingRows : List Row
 readingRows = tooLong ++ notLines ++ smallLetters ++ wrongKinds ++ limits ++ stations ++ tooMany ++ places ++ steps ++ firstRules
 
--- 64 processes, of which 63 have a failure line, those of stations 2 to 64, in round 64: as many as there may be of each.
+-- The largest ticket: 64 processes, and failure lines of stations 2 to 64, all in round 64.
 unfoldable pub fullest : List ℕ
 fullest = textOf opening64 ++ hexLines (tabulate (λ (k : ℕ). 3 ∷ (k + 2) ∷ 64 ∷ replicate 10 0) 63) ++ textOf ("04" ∷ [])
+
+-- n and t of what a text is accepted with.
+unfoldable pub limitsOf : Reading Instance → List ℕ
+limitsOf (accepted x) = x .processes ∷ x .resilience ∷ []
+limitsOf (refused refusal line) = []
 
 -- The claim: reading answers as each row says, and there are 100 of them.
 pub record ReadingCases : Type 0 where
@@ -193,4 +199,5 @@ pub record ReadingCases : Type 0 where
   -- of all kinds 01 alone begins a ticket
   pub kinds : tabulate (λ (kind : ℕ). verdictOf (readTicket (hexLine (kind ∷ 4 ∷ 2 ∷ [])))) 256
       ≡ (refusedWith 3 1 ∷ refusedWith 3 2 ∷ []) ++ replicate 254 (refusedWith 3 1)
-  pub fullestPasses : verdictOf (readTicket fullest) ≡ passes
+  pub fullestPasses : limitsOf (readTicket fullest) ≡ 64 ∷ 63 ∷ []
+  pub fullestLength : length fullest ≡ 2543

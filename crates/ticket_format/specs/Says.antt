@@ -1,5 +1,5 @@
 -- What a line of a ticket says where it stands, and which refusal a wrong one gets (document 01, 'The ticket' and 'Refused calls', refusals 3 to 8).
--- It depends on n, t and the place alone, and not on what earlier lines proposed. `Place`, `HeaderAnswer` and `LineAnswer` are the code's enums.
+-- Besides its own bytes it depends on n, t and the place, and not on what earlier lines proposed. `Place`, `HeaderAnswer` and `LineAnswer` are the code's enums.
 use mathlib.Core.List.{List}
 use Prim.Native.Nat.{ℕ, suc}
 use mathlib.Core.Bool.{Bool, cond, not, _&&_}

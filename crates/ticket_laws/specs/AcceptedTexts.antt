@@ -15,11 +15,11 @@ pub record TicketOf (x : Instance) (text : List ℕ) : Type 0 where
   pub wellFormed : WellFormed x
   pub written : map capital text ≡ ticketText x
 
--- The most bytes that the ticket of an instance has: of 64 processes, 63 of which have a failure line.
+-- The most bytes that a ticket has: of 64 processes, 63 of which have a failure line. (`fullest` of ticket_format/specs/ReadingCases has as many.)
 abbrev pub longestTicket : ℕ
 longestTicket = 2543
 
--- A text is accepted with an instance just if it is its ticket; and so no ticket comes near the 4,096 bytes that refusal 1 allows.
+-- A text is accepted with an instance exactly if it is its ticket. So no ticket comes near 4,096 bytes, above which refusal 1 is due.
 pub record AcceptedTexts : Type 0 where
   pub complete : (text : List ℕ) (x : Instance) → TicketOf x text → readTicket text ≡ accepted x
   pub exact : (text : List ℕ) (x : Instance) → readTicket text ≡ accepted x → TicketOf x text

@@ -10,7 +10,7 @@ use Rattle.general.specs.Bits.{member}
 use Rattle.consensus.specs.Limits.{Limits}
 use Rattle.text.specs.Line.{Line, bytes, noLine, linesOf}
 
--- The fields of a line: kind; station, round, step, set and count of a failure line, of which a proposal line has the station too.
+-- The fields of a line. Every line has a kind, a proposal line a station, and a failure line station, round, step, set and count.
 unfoldable pub kindIn : List ℕ → ℕ
 kindIn b = getD b 0 0
 
@@ -40,7 +40,7 @@ tIn before = getD (getD before 0 []) 2 0
 unfoldable pub lastOf : (before : List (List ℕ)) → List ℕ
 lastOf before = getD before (length before - 1) []
 
--- A line of a kind that is allowed here, of the length of its kind: the header first, then n proposals, then failure lines and the end.
+-- A line of a kind that is allowed here, of its kind's length. The header comes first, then n proposals, then failure lines and the end.
 pub data AllowedHere (before : List (List ℕ)) (b : List ℕ) : Type 0 where
   headerFirst : length before ≡ 0 → kindIn b ≡ 1 → length b ≡ 3 → AllowedHere before b
   proposalNext : 1 ≤ length before → length before ≤ nIn before → kindIn b ≡ 2 → length b ≡ 6 → AllowedHere before b
@@ -82,12 +82,12 @@ pub record FirstApplies (before : List (List ℕ)) (b : List ℕ) (refusal : ℕ
   pub applies : Applies before b refusal
   pub first : (other : ℕ) → other < refusal → Applies before b other → ⊥
 
--- Lines to which nothing applies, each behind those before it.
+-- Lines to which no refusal applies, each after those before it.
 pub data Right : List (List ℕ) → Type 0 where
   none : Right []
   oneMore : (before : List (List ℕ)) (b : List ℕ) → Right before → ((refusal : ℕ) → Applies before b refusal → ⊥) → Right (before ++ (b ∷ []))
 
--- A text is wrong with this refusal at this line: it is too long (1, of no line); or the lines before this one are right, and this one is no line (2), or a
+-- A text is wrong with this refusal at this line. It may be too long: 1, of no line. Else the lines before this one are right. This one is no line (2), or a
 -- refusal applies to it, or the text is over where it should stand, before its 04 (3).
 pub data FirstWrong (text : List ℕ) : (refusal line : ℕ) → Type 0 where
   tooLong : 4096 < length text → FirstWrong text 1 0

@@ -6,7 +6,7 @@ use Rattle.ticket_format.specs.Reading.{refused}
 use Rattle.ticket_format.specs.Ticket.{readTicket}
 use Rattle.ticket_laws.specs.FirstWrong.{FirstWrong}
 
--- Reading refuses a text just with the number and the line that document 01's words give it.
+-- Reading refuses a text with exactly the number and the line that document 01's words give it.
 pub record RefusedTexts : Type 0 where
   pub given : (text : List ℕ) (refusal line : ℕ) → FirstWrong text refusal line → readTicket text ≡ refused refusal line
   pub only : (text : List ℕ) (refusal line : ℕ) → readTicket text ≡ refused refusal line → FirstWrong text refusal line
