@@ -11,7 +11,7 @@
 # make vectors-part           the same on a part that has every kind of vector
 # make library-test           the compiled library on every vector of tests/vectors/
 # make host-test              simulate and examples/host on every ticket of tests/vectors/, the host also by seeds and with two tickets mixed, examples/frames on those of Papers 2 and 4, examples/report on those of Paper 6, examples/reasons on those of Paper 7, examples/quote on those of Paper 9, and what cannot be read or written
-# make interface-test         the header's prototypes against the library's, and docs/FORMATS.md against the header
+# make interface-test         the header's prototypes against the library's, its promises against tests/contracts.txt, docs/FORMATS.md against the header
 # make show-test              explain and picture on every ticket of tests/vectors/, the settling round and the reasons as the library answers them
 # make second-test            the second implementation's own tests
 # make wrong-worlds           wrong rules of the protocol, and a counterexample to each claim that fails under them

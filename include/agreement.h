@@ -508,9 +508,9 @@ uint64_t uc_speak(const uint8_t *state, size_t state_len, uint8_t *output, size_
 /*
  * uc_close - close the round on what was heard
  *
- * Heard is nothing, a data frame (6 bytes), or a data frame and a commit frame (8 bytes), of this round. Answers 0, and
- * the state is that of the next round, or decided, or rounds over after round t + 1. Or a refusal, with the state
- * unchanged: 10, 11, 12, looked for in this order.
+ * Heard is nothing, a data frame (6 bytes), or a data frame and a commit frame (8 bytes), of this round; in the
+ * process's own round it is nothing. Answers 0, and the state is that of the next round, or decided, or rounds over
+ * after round t + 1. Or a refusal, with the state unchanged: 10, 11, 12, looked for in this order.
  */
 uint64_t uc_close(uint8_t *state, size_t state_len, const uint8_t *heard, size_t heard_len);
 

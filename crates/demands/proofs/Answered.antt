@@ -16,6 +16,7 @@ use Rattle.answers.specs.Code.{codeOf, refusalsFrom, RunCall}
 use Rattle.ticket_laws.proofs.WellFormed.{accepted-well-formed}
 use Rattle.ticket_format.proofs.RefusalRange.{RefusedBy, lastRefused, ticket-refused}
 use Rattle.answers.proofs.ResultLength.{length-text}
+use Rattle.ticket_laws.proofs.AcceptedTexts.{accepted-texts}
 use Rattle.ticket_laws.proofs.RefusedTexts.{refused-wrong}
 use Rattle.demands.specs.Demand1.{wrong, tooShort, RunAnswered, result, refusal}
 
@@ -53,9 +54,9 @@ module _ (text before after : List ℕ) (code : ℕ) (call : RunCall text before
   by-case (accepted r) e (fits x read room) =
       let size = length-text x (accepted-well-formed text x read) in
       let coded : code ≡ resultSize (x .processes) = (rw e at (call .answered)) ∙ size in
-      result x read room coded (omega (arith, result-small text x read)) (rw (e, size) at (call .buffer))
+      result x (accepted-texts .exact text x read) room coded (omega (arith, result-small text x read)) (rw (e, size) at (call .buffer))
   by-case (refused number line) e (short x read room) =
-      refusal 9 0 (tooShort x read room) (rw e at (call .answered)) (rw (call .answered, e) (omega arith)) (rw e at (call .buffer))
+      refusal 9 0 (tooShort x (accepted-texts .exact text x read) room) (rw e at (call .answered)) (rw (call .answered, e) (omega arith)) (rw e at (call .buffer))
   by-case (refused number line) e (unread _ _ read) =
       let some = unread-numbered text number line read in
       refusal number line (wrong (refused-wrong text number line read))

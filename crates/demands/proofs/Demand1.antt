@@ -41,7 +41,7 @@ settle-answered text code e = by-reading (readTicket text) refl e
     by-reading : (reading : Reading Instance) → readTicket text ≡ reading → code ≡ numberCode (settlingIn reading) → SettleAnswered text code
     by-reading (accepted x) read coded =
         let formed = accepted-well-formed text x read in
-        round x read coded (omega (arith, coded, first-settling x formed .within .1, counts-fit x formed .rounds))
+        round x (accepted-texts .exact text x read) coded (omega (arith, coded, first-settling x formed .within .1, counts-fit x formed .rounds))
     by-reading (refused number line) read coded =
         refusal number line (refused-wrong text number line read) coded (omega (arith, coded, unread-numbered text number line read))
 

@@ -1,13 +1,18 @@
 -- The claims, used on the largest ticket and on the witnesses. Assumes nothing.
 use mathlib.Core.List.{List, [], _∷_}
 use mathlib.Core.Path.{_≡_, refl, ap}
-use Prim.Native.Nat.{ℕ, _≤_}
+use Prim.Native.Nat.{ℕ, _≤_, _<_}
 use native.Mathlib.Omega.{arith}
 use lib.ListN.{getD, replicate}
 use Rattle.consensus.specs.Instance.{Instance}
 use Rattle.answers.proofs.LetteringCases.{lettering-cases}
 use Rattle.demands.specs.Witnesses.{crashText, mixedText, laterText}
-use Rattle.demands.specs.Used.{FullestMet, lastState, UsedOnFullest, ClaimsUsed}
+use Rattle.general.proofs.Bytes.{bytes-each}
+use Rattle.ticket_laws.specs.AcceptedTexts.{TicketOf}
+use Rattle.ticket_laws.specs.TicketText.{ticketText}
+use Rattle.ticket_laws.proofs.WellFormed.{accepted-well-formed}
+use Rattle.ticket_laws.proofs.AcceptedTexts.{ticket-in-capitals}
+use Rattle.demands.specs.Used.{FullestMet, lastState, dataOfRound1, UsedOnFullest, ClaimsUsed}
 use Rattle.consensus.specs.Consensus.{IsProcess}
 use Rattle.coordinator.specs.Run.{endOf}
 use Rattle.text.specs.Line.{Line, linesOf}
@@ -56,6 +61,10 @@ paired-self : (lines : List Line) → PairedLines lines lines
 paired-self [] = noLines
 paired-self (line ∷ lines) = sameLine (paired-self lines)
 
+data-bytes : (i : ℕ) → getD dataOfRound1 i 0 < 256
+unfolding dataOfRound1
+data-bytes = bytes-each (0x21 ∷ 1 ∷ 0 ∷ 0 ∷ 0 ∷ 7 ∷ []) (omega arith, (omega arith, (omega arith, (omega arith, (omega arith, (omega arith, tt))))))
+
 module _ (f : FullestMet) where
   fullest-wrote : Wrote fullest (f .instance) (programWrites fullest)
   fullest-wrote = demand-2 .written .byProgram fullest (f .instance) (f .read)
@@ -67,6 +76,12 @@ module _ (f : FullestMet) where
   unfolding PairedTexts
   fullest-paired = paired-self (linesOf fullest)
 
+  -- Its ticket in capitals.
+  own-ticket : TicketOf (f .instance) (ticketText (f .instance))
+  own-ticket =
+      let formed = accepted-well-formed fullest (f .instance) (f .read) in
+      record { wellFormed = formed; written = ticket-in-capitals (f .instance) formed }
+
   process : (p : ℕ) → 1 ≤ p → p ≤ 64 → IsProcess (f .instance) p
   process p first last = record { first = first; last = omega (arith, last, f .processes) }
 
@@ -74,10 +89,14 @@ module _ (f : FullestMet) where
   used-on-fullest =
       record {
         judged = demand-1 .texts .each fullest;
+        ticketRead = demand-1 .accepts .complete (ticketText (f .instance)) (f .instance) own-ticket;
         cut = demand-1 .lines .only fullest;
         started = demand-1 .calls .starting 64 64 63 4294967295 (replicate 9 0);
         spoken = demand-1 .calls .speaking lastState (replicate 64 0);
+        spokenOnly = λ answer after h. demand-1 .calls .speakingOnly answer lastState (replicate 64 0) after h .0;
         closed = demand-1 .calls .closing lastState [] (λ i. omega arith);
+        closedOnData = demand-1 .calls .closing lastState dataOfRound1 data-bytes;
+        closedOnly = λ answer after h. demand-1 .calls .closingOnly answer lastState dataOfRound1 after data-bytes h .1;
         consensus = demand-3 .rounds .consensus fullest (f .instance) (f .read);
         counted = demand-3 .rounds .crashes fullest (f .instance) (f .read);
         saidNoLater =

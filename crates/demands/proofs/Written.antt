@@ -10,6 +10,7 @@ use Rattle.ticket_format.specs.Ticket.{readTicket}
 use Rattle.answers.specs.ResultLine.{resultText, resultSize}
 use Rattle.answers.specs.Running.{running, bufferAfter, written, programWrites}
 use Rattle.answers.specs.Code.{refusalsFrom}
+use Rattle.ticket_laws.proofs.AcceptedTexts.{accepted-texts}
 use Rattle.ticket_laws.proofs.WellFormed.{accepted-well-formed}
 use Rattle.ticket_format.proofs.Passing.{refused-accepted}
 use Rattle.running.specs.Answer.{answerOf, Ran}
@@ -32,8 +33,8 @@ ran-wrote text before out size ran = by-case (running text (length before)) refl
     by-case (refused number line) e (unread _ _ read) = absurd (written-not-refused size number line (rw e at (ran .answered)))
 
 answered-wrote : (text before out : List ℕ) (code : ℕ) → code < refusalsFrom → RunAnswered text before out code → (x : Instance) × Wrote text x out
-answered-wrote text before out code small (result x read room size less front) =
-    (x, record { read = read; behind = drop (resultSize (x .processes)) before; front = front })
+answered-wrote text before out code small (result x ticket room size less front) =
+    (x, record { read = accepted-texts .complete text x ticket; behind = drop (resultSize (x .processes)) before; front = front })
 answered-wrote text before out code small (refusal number line reason coded large same) = absurd (omega arith)
 
 -- The program has room for the result of 64 processes.

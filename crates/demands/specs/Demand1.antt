@@ -7,15 +7,13 @@ use Prim.Native.Nat.{ℕ, _≤_, _<_}
 use lib.ListN.{length, drop}
 use Rattle.consensus.specs.Instance.{Instance}
 use Rattle.coordinator.specs.Settling.{firstSettling}
-use Rattle.ticket_format.specs.Reading.{accepted}
-use Rattle.ticket_format.specs.Ticket.{readTicket}
 use Rattle.ticket_laws.specs.FirstWrong.{FirstWrong}
 use Rattle.answers.specs.ResultLine.{resultText, resultSize, refusalLine}
 use Rattle.answers.specs.Running.{programWrites}
 use Rattle.answers.specs.Settle.{settling}
 use Rattle.demands.specs.OutputSays.{refusalSaid}
 use Rattle.text.specs.Split.{LinesSplit}
-use Rattle.ticket_laws.specs.AcceptedTexts.{AcceptedTexts}
+use Rattle.ticket_laws.specs.AcceptedTexts.{TicketOf, AcceptedTexts}
 use Rattle.ticket_laws.specs.RefusedTexts.{RefusedTexts}
 use Rattle.ticket_laws.specs.TextsJudged.{TextsJudged}
 use Rattle.part_format.specs.Refused.{RefusedCallsChangeNothing, SpeakAnswersApart}
@@ -25,12 +23,12 @@ use Rattle.answers.specs.Code.{refusalsFrom, refusalCode, RunCall, numberCode}
 -- Running a text into a buffer of `room` bytes is refused with this number and line. The cause is its first wrong line; or, with 9 and no line, want of room.
 pub data RunRefused (text : List ℕ) (room : ℕ) : (refusal line : ℕ) → Type 0 where
   wrong : {refusal line : ℕ} → FirstWrong text refusal line → RunRefused text room refusal line
-  tooShort : (x : Instance) → readTicket text ≡ accepted x → room < resultSize (x .processes) → RunRefused text room 9 0
+  tooShort : (x : Instance) → TicketOf x text → room < resultSize (x .processes) → RunRefused text room 9 0
 
 -- What the call of running answers, and what the buffer holds afterwards. It is the size of the result, which stands at the front, and after it what stood
 -- there; or a refusal, and all as it was.
 pub data RunAnswered (text before after : List ℕ) (code : ℕ) : Type 0 where
-  result : (x : Instance) → readTicket text ≡ accepted x → resultSize (x .processes) ≤ length before → code ≡ resultSize (x .processes) → code < refusalsFrom
+  result : (x : Instance) → TicketOf x text → resultSize (x .processes) ≤ length before → code ≡ resultSize (x .processes) → code < refusalsFrom
       → after ≡ resultText x ++ drop (resultSize (x .processes)) before → RunAnswered text before after code
   refusal : (number line : ℕ) → RunRefused text (length before) number line → code ≡ refusalCode number line → refusalsFrom ≤ code → after ≡ before
       → RunAnswered text before after code
@@ -38,7 +36,7 @@ pub data RunAnswered (text before after : List ℕ) (code : ℕ) : Type 0 where
 -- What the call of settling answers: the settling round (document 02, Paper 6; what is claimed of it: `SettlingClaim`), or the refusal of the text's first
 -- wrong line.
 pub data SettleAnswered (text : List ℕ) (code : ℕ) : Type 0 where
-  round : (x : Instance) → readTicket text ≡ accepted x → code ≡ firstSettling x → code < refusalsFrom → SettleAnswered text code
+  round : (x : Instance) → TicketOf x text → code ≡ firstSettling x → code < refusalsFrom → SettleAnswered text code
   refusal : (number line : ℕ) → FirstWrong text number line → code ≡ refusalCode number line → refusalsFrom ≤ code → SettleAnswered text code
 
 -- Of tickets: every text and every buffer gets its answer.

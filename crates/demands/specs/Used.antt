@@ -1,5 +1,4 @@
--- The claims, each used by its own premises at two places far apart: on the witnesses, which are case 1 and what is paired with it, and on the largest ticket
--- and state that there are.
+-- Claims, used by their own premises: on case 1 and what is paired with it, on the largest ticket and state, or on both.
 use mathlib.Core.List.{List, [], _∷_}
 use mathlib.Core.Path.{_≡_}
 use Prim.Native.Nat.{ℕ}
@@ -53,14 +52,22 @@ pub record FullestMet : Type 0 where
 unfoldable pub lastState : List ℕ
 lastState = 64 ∷ 64 ∷ 63 ∷ 1 ∷ 0 ∷ 255 ∷ 255 ∷ 255 ∷ 255 ∷ []
 
+-- The data frame of round 1 with the value 7.
+unfoldable pub dataOfRound1 : List ℕ
+dataOfRound1 = 0x21 ∷ 1 ∷ 0 ∷ 0 ∷ 0 ∷ 7 ∷ []
+
 -- On the largest.
 pub record UsedOnFullest (f : FullestMet) : Type 0 where
   -- demand 1: the text, its lines, and calls of the process part
   pub judged : TextJudged fullest
+  pub ticketRead : readTicket (ticketText (f .instance)) ≡ accepted (f .instance)
   pub cut : (lines : List Line) → Split fullest lines → lines ≡ linesOf fullest
   pub started : Starts 64 64 63 4294967295 (replicate 9 0) (startRefusal 64 64 63 (replicate 9 0)) (startBytes 64 64 63 4294967295 (replicate 9 0))
   pub spoken : Speaks lastState (replicate 64 0) (speakAnswer lastState 64) (speakOutput lastState (replicate 64 0))
+  pub spokenOnly : (answer : ℕ) (after : List ℕ) → Speaks lastState (replicate 64 0) answer after → answer ≡ speakAnswer lastState 64
   pub closed : Closes lastState [] (closeRefusal lastState []) (closeState lastState [])
+  pub closedOnData : Closes lastState dataOfRound1 (closeRefusal lastState dataOfRound1) (closeState lastState dataOfRound1)
+  pub closedOnly : (answer : ℕ) (after : List ℕ) → Closes lastState dataOfRound1 answer after → after ≡ closeState lastState dataOfRound1
   -- demand 3: the rounds, and the bytes of a result
   pub consensus : UniformConsensus (latestOf (f .instance)) (f .instance) (endOf (f .instance))
   pub counted : CountsCrashes (crashesOf (f .instance)) (f .instance) (endOf (f .instance))

@@ -32,7 +32,7 @@ pub record Identified (p n t : ℕ) : Type 0 where
   pub first : 1 ≤ p
   pub last : p ≤ n
 
--- What escapes refusal 10.
+-- A state that is not refused with 10. Its value may be any.
 pub record ValidState (b : List ℕ) : Type 0 where
   pub nine : length b ≡ 9
   pub identified : Identified (stationOf b) (nOf b) (tOf b)
@@ -42,7 +42,7 @@ pub record ValidState (b : List ℕ) : Type 0 where
   -- mark 02: round = t + 1 < station
   pub afterRounds : markOf b ≡ 2 → (roundOf b ≡ suc (tOf b)) × (suc (tOf b) < stationOf b)
 
--- What escapes refusal 11 too: mark 00.
+-- One that is not refused with 11 either: mark 00.
 pub record OpenState (b : List ℕ) : Type 0 where
   pub valid : ValidState b
   pub unmarked : markOf b ≡ 0

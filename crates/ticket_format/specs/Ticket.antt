@@ -10,7 +10,7 @@ use Rattle.ticket_format.specs.Reading.{Reading, accepted, refused, read
 use Rattle.ticket_format.specs.Accept.{Stage, header, body, accept}
 use Rattle.ticket_format.specs.declared.Place.the-variants.{Proposals, Failures, Ended}
 
--- The most bytes that a ticket has.
+-- A text of more bytes gets refusal 1.
 abbrev pub ticketLimit : ℕ
 ticketLimit = 4096
 

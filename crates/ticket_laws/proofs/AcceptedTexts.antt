@@ -190,5 +190,9 @@ module _ (text : List ℕ) (x : Instance) where
         written = lines-written text (ticketLines x) (lines-of-accepted (ltb ticketLimit (length text)) e);
       }
 
+-- The ticket is written in capitals.
+pub ticket-in-capitals : (x : Instance) → WellFormed x → map capital (ticketText x) ≡ ticketText x
+ticket-in-capitals x w = text-exact (ticketText x) x (ticket-accepted x w) .written
+
 pub accepted-texts : AcceptedTexts
 accepted-texts = record { complete = text-accepted; exact = text-exact; short = text-short }

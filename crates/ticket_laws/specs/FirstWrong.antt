@@ -74,7 +74,9 @@ pub data Applies (before : List (List ℕ)) (b : List ℕ) : (refusal : ℕ) →
   notNext : kindIn b ≡ 2 → (stationIn b ≡ length before → ⊥) → Applies before b 5
   -- more than t failure lines: header, proposals and t of them stand before it
   tooMany : kindIn b ≡ 3 → nIn before + tIn before < length before → Applies before b 6
+  -- station, round or step outside their limits, or the station not rising
   notInPlace : kindIn b ≡ 3 → (InPlace before b → ⊥) → Applies before b 7
+  -- a round, a set or a count that does not suit the step
   notSuited : kindIn b ≡ 3 → (Suited (nIn before) b → ⊥) → Applies before b 8
 
 -- The first refusal that applies to a line.
@@ -87,8 +89,8 @@ pub data Right : List (List ℕ) → Type 0 where
   none : Right []
   oneMore : (before : List (List ℕ)) (b : List ℕ) → Right before → ((refusal : ℕ) → Applies before b refusal → ⊥) → Right (before ++ (b ∷ []))
 
--- A text is wrong with this refusal at this line. It may be too long: 1, of no line. Else the lines before this one are right. This one is no line (2), or a
--- refusal applies to it, or the text is over where it should stand, before its 04 (3).
+-- A text is wrong with this refusal at this line. More than 4,096 bytes: refusal 1, line 0. Else all lines before it are right, and its number is one more
+-- than theirs. It is no line (2), or a refusal applies to it (3 to 8), or the text ends there without an 04 (3).
 pub data FirstWrong (text : List ℕ) : (refusal line : ℕ) → Type 0 where
   tooLong : 4096 < length text → FirstWrong text 1 0
   notALine : (before : List (List ℕ)) (rest : List Line) → length text ≤ 4096 → Right before → linesOf text ≡ map bytes before ++ (noLine ∷ rest)

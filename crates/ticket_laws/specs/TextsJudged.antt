@@ -1,4 +1,4 @@
--- Every text is a ticket or has a first wrong line, and only one of the two (document 00, demand 1: "A ticket, well formed or damaged, gets a result, or the
+-- Every text is a ticket or is wrong in one way, and never both (document 00, demand 1: "A ticket, well formed or damaged, gets a result, or the
 -- number of its refusal and its first wrong line").
 use mathlib.Core.List.{List}
 use mathlib.Core.Path.{_≡_}
