@@ -88,17 +88,17 @@ target/bin/simulate: $(SOURCES)
 	@touch $@
 
 test:
-	@tools/in-memory tools/test
+	@tools/in-memory tests/test
 
 # What several parts of the test need.
 built: $(LIBRARY) target/bin/simulate target/bin/calls target/bin/reasons
 	$(SECOND) build --quiet --release -p against
 
 vectors:
-	tools/in-memory tools/try-vectors
+	tools/in-memory tests/try-vectors
 
 vectors-part:
-	tools/in-memory tools/try-vectors --part
+	tools/in-memory tests/try-vectors --part
 
 $(LIBRARY): $(SOURCES)
 	rt staticlib agreement
@@ -117,16 +117,16 @@ target/bin/calls: tests/calls.c include/agreement.h $(LIBRARY)
 	$(CC) $(CFLAGS_STRICT) $(SANITIZERS) tests/calls.c $(LIBRARY) -o $@
 
 host-test: target/bin/simulate $(EXAMPLES:%=target/bin/%) $(EXAMPLES:%=target/bin/%-sanitized)
-	tools/host-test $(EXAMPLES:%=target/bin/%-sanitized) target/bin/simulate
+	tests/host-test $(EXAMPLES:%=target/bin/%-sanitized) target/bin/simulate
 
 library-test: target/bin/calls
-	tools/library-test target/bin/calls
+	tests/library-test target/bin/calls
 
 interface-test: $(LIBRARY)
-	tools/interface-test $(LIBRARY)
+	tests/interface-test $(LIBRARY)
 
 show-test: target/bin/simulate target/bin/reasons target/bin/calls
-	tools/show-test target/bin/simulate target/bin/calls
+	tests/show-test target/bin/simulate target/bin/calls
 
 unused:
 	tools/unused
@@ -139,7 +139,7 @@ costs: $(LIBRARY)
 	@command -v valgrind > /dev/null || { echo 'make costs: it needs valgrind, which is not here' >&2; exit 2; }
 	mkdir -p target/bin
 	$(CC) $(CFLAGS_STRICT) tests/costs.c $(LIBRARY) -o target/bin/costs
-	tools/costs $(if $(STORE),--store) target/bin/costs
+	tests/costs-test $(if $(STORE),--store) target/bin/costs
 
 second-test:
 	$(SECOND) test --quiet

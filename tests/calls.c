@@ -1,6 +1,6 @@
 /*
  * Calls the library as a C program does: a request on each line of standard input, its answer on a line of standard
- * output, at once, so that a request may depend on the answers before. tools/library-test sends it the vectors of
+ * output, at once, so that a request may depend on the answers before. tests/library-test sends it the vectors of
  * tests/vectors/.
  *
  *   run TICKET OUTPUT    settle TICKET    reason PROCESS ROUND TICKET    reasons TICKET OUTPUT

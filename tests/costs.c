@@ -1,5 +1,5 @@
 // Calls every function of the library once on each ticket named, each by itself under callgrind, which counts the instructions of the call.
-// tools/costs runs it and reads the counts: each dump has the name of the call and of what it is called on.
+// tests/costs-test runs it and reads the counts: each dump has the name of the call and of what it is called on.
 #include <stdio.h>
 #include <stdlib.h>
 #include <string.h>

@@ -1,10 +1,10 @@
-"""Tickets, results and reasons as tools/draw-run, tools/explain-run and tools/show-test look at them.
+"""Tickets, results and reasons as tools/draw-run, tools/explain-run and tests/show-test look at them.
 
 What running a ticket answers is never worked out here: it is read off what `simulate` writes; nor are the reasons of Paper 7,
 which are what `reasons` (examples/reasons.c) writes. What is worked out is how the run
 came there (who sent what to whom, what of it the switch carried, who heard it, who held which value, and so in which round
 all held one), from the ticket's failure lines and from the result, which says who had decided or crashed when; and
-`contradictions` says where these do not add up. (The settling round is what `uc_settle` answers: tools/show-test holds it
+`contradictions` says where these do not add up. (The settling round is what `uc_settle` answers: tests/show-test holds it
 to that.) The result counts what was carried: a frame to a process that was up and undecided when the round began. Of a
 refusal, `what_is_wrong` says which of the things that its text names is the case.
 """

@@ -10,7 +10,7 @@ base.jsonl has `result` alone, without Papers 2 and 4; 15 of its tickets have sm
 compared without any count: what is written now with the two bytes that Paper 2 adds struck out of each line 11, and both without the
 two counts of line 12 (`comparable_result`, `comparable`); and where the room matters, the output is longer by what Paper 2 adds
 (`output`). The counts of before Paper 4, which are of all frames that were sent, are those of `result` in base.jsonl, paper-01.jsonl
-and paper-02.jsonl (`COUNTED_AS_SENT`, `result_before`): tools/show-test and second/tests/vectors.rs hold to them what is carried and
+and paper-02.jsonl (`COUNTED_AS_SENT`, `result_before`): tests/show-test and second/tests/vectors.rs hold to them what is carried and
 what is dropped.
 
 Settling answers the lowest round that qualifies (Paper 6): the first of those that base.jsonl lists, and what paper-06.jsonl says, which
@@ -32,7 +32,7 @@ import os
 from dataclasses import dataclass
 from typing import NamedTuple
 
-FOLDER = os.path.join(os.path.dirname(os.path.dirname(os.path.abspath(__file__))), "tests", "vectors")
+FOLDER = os.path.join(os.path.dirname(os.path.abspath(__file__)), "vectors")
 BASE, DESK = "base", "desk"
 PAPERS = ["paper-01", "paper-02", "paper-03", "paper-04"]  # whose vectors are of running a ticket
 TICKET_FILES = [BASE, *PAPERS]
