@@ -15,7 +15,8 @@
 # make show-test              explain and picture on every ticket of tests/vectors/, the settling round and the reasons as the library answers them
 # make second-test            the second implementation's own tests
 # make wrong-worlds           wrong rules of the protocol, and a counterexample to each claim that fails under them
-# make unused                 list definitions, lemmas and imports that nothing uses, and promises that no must-fail edit serves
+# make unused                 list definitions, lemmas and imports that nothing uses, promises that no must-fail edit serves, and where
+#                             docs/CLAIMS.md differs from the crates
 # make wrong-programs         the wrong programs beside the gate: of the crates that changed since theirs were refused, CRATES='a b', or ALL=1
 # make costs                  instructions of every exported call on stored tickets: it fails where one rose by more than 2 %; STORE=1 stores the counts.
 #                             It needs valgrind
@@ -131,6 +132,7 @@ show-test: target/bin/simulate target/bin/reasons target/bin/calls
 unused:
 	tools/unused
 	tools/promises
+	tools/believed
 
 wrong-programs:
 	tools/in-memory tools/wrong-programs $(if $(ALL),--all) $(CRATES)

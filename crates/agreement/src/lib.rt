@@ -9,10 +9,8 @@ ghost use Rattle.answers.specs.Settle.{settling};
 ghost use Rattle.answers.specs.Reason.{reason};
 ghost use Rattle.answers.specs.Code.{placedCode, RunCall, ReasonsCall, numberCode};
 ghost use Rattle.pricing_format.specs.QuoteCall.{QuoteCall, PriceCall};
-use quotes::QuoteAnswer;
-use reasons::ReasonAnswer;
-use running::RunAnswer;
-use running::SettleAnswer;
+ghost use Rattle.answers.specs.Reply.{answerBy};
+use answers::Reply;
 
 // From here on an answer of a call that takes a ticket is a refusal.
 const REFUSALS_FROM: u64 = 65536;
@@ -27,16 +25,23 @@ fn refusal_code(place: u8, number: u8, line: u16) -> u64
     PLACES_FROM * (place as u64) + REFUSALS_FROM * (number as u64) + line as u64
 }
 
+// A reply as one number: what is given, or the refusal.
+fn reply_code(reply: Reply) -> u64
+    ensures { λ r. ⌜ r ≡ numberCode (answerBy reply) ⌝ }
+{
+    match reply {
+        Reply::Given(number) => number,
+        Reply::Refused(refusal, line) => refusal_code(0, refusal, line),
+    }
+}
+
 // Runs a ticket: the bytes of its result, or 65536 times the refusal plus its line.
 #[no_mangle]
 pub extern "C" fn uc_run(ticket: &[u8], output: &mut [u8]) -> u64
     ensures { λ r. ⌜ RunCall (now (ticket .entry)) (now (output .entry)) (now (output .exit)) r ⌝ }
 {
-    let answer = running::run_ticket(ticket, output);
-    match answer {
-        RunAnswer::Written(size) => size as u64,
-        RunAnswer::Refused(number, line) => refusal_code(0, number, line),
-    }
+    let reply = running::run_ticket(ticket, output);
+    reply_code(reply)
 }
 
 // Names the settling round of a ticket, the lowest that qualifies; or 65536 times the refusal plus its line.
@@ -44,11 +49,8 @@ pub extern "C" fn uc_run(ticket: &[u8], output: &mut [u8]) -> u64
 pub extern "C" fn uc_settle(ticket: &[u8]) -> u64
     ensures { λ r. ⌜ r ≡ numberCode (settling (now (ticket .entry))) ⌝ }
 {
-    let answer = running::settle(ticket);
-    match answer {
-        SettleAnswer::Round(round) => round as u64,
-        SettleAnswer::Refused(number, line) => refusal_code(0, number, line),
-    }
+    let reply = running::settle(ticket);
+    reply_code(reply)
 }
 
 // Gives the reason of a process in a round of a ticket's run, 1 to 7; or 65536 times the refusal plus its line.
@@ -56,11 +58,8 @@ pub extern "C" fn uc_settle(ticket: &[u8]) -> u64
 pub extern "C" fn uc_reason(ticket: &[u8], process: u64, round: u64) -> u64
     ensures { λ r. ⌜ r ≡ numberCode (reason (now (ticket .entry)) process round) ⌝ }
 {
-    let answer = reasons::reason_of(ticket, process, round);
-    match answer {
-        ReasonAnswer::Reason(known) => known as u64,
-        ReasonAnswer::Refused(number, line) => refusal_code(0, number, line),
-    }
+    let reply = reasons::reason_of(ticket, process, round);
+    reply_code(reply)
 }
 
 // Writes the reasons of all processes in all rounds of a ticket's run: how many there are, or 65536 times the refusal plus its line.
@@ -68,11 +67,8 @@ pub extern "C" fn uc_reason(ticket: &[u8], process: u64, round: u64) -> u64
 pub extern "C" fn uc_reasons(ticket: &[u8], reasons: &mut [u8]) -> u64
     ensures { λ r. ⌜ ReasonsCall (now (ticket .entry)) (now (reasons .entry)) (now (reasons .exit)) r ⌝ }
 {
-    let answer = reasons::all_reasons(ticket, reasons);
-    match answer {
-        RunAnswer::Written(count) => count as u64,
-        RunAnswer::Refused(refusal, wrong_line) => refusal_code(0, refusal, wrong_line),
-    }
+    let reply = reasons::all_reasons(ticket, reasons);
+    reply_code(reply)
 }
 
 // Quotes tender lines for a process of a ticket's run: 0, and the pence in their place; or 65536 times the refusal plus its line.
@@ -80,13 +76,13 @@ pub extern "C" fn uc_reasons(ticket: &[u8], reasons: &mut [u8]) -> u64
 pub extern "C" fn uc_quote(ticket: &[u8], costs: &[u64], process: u64, quote: &mut u64) -> u64
     ensures { λ r. ⌜ QuoteCall (now (ticket .entry)) (now (costs .entry)) process (now (quote .entry)) (now (quote .exit)) r ⌝ }
 {
-    let answer = quotes::quote_of(ticket, costs, process);
-    match answer {
-        QuoteAnswer::Quote(pence) => {
+    let reply = quotes::quote_of(ticket, costs, process);
+    match reply {
+        Reply::Given(pence) => {
             *quote = pence;
             0
         }
-        QuoteAnswer::Refused(number, line) => refusal_code(0, number, line),
+        Reply::Refused(number, line) => refusal_code(0, number, line),
     }
 }
 
@@ -95,13 +91,13 @@ pub extern "C" fn uc_quote(ticket: &[u8], costs: &[u64], process: u64, quote: &m
 pub extern "C" fn uc_price(state: &[u8], costs: &[u64], quote: &mut u64) -> u64
     ensures { λ r. ⌜ PriceCall (now (state .entry)) (now (costs .entry)) (now (quote .entry)) (now (quote .exit)) r ⌝ }
 {
-    let answer = quotes::quote_own(state, costs);
-    match answer {
-        QuoteAnswer::Quote(price) => {
-            *quote = price;
+    let reply = part_price::quote_own(state, costs);
+    match reply {
+        Reply::Given(pence) => {
+            *quote = pence;
             0
         }
-        QuoteAnswer::Refused(refusal, _) => refusal as u64,
+        Reply::Refused(number, _) => number as u64,
     }
 }
 

@@ -13,14 +13,14 @@ use Rattle.ticket_format.specs.Ticket.{atEnd, readTicket}
 use Rattle.text.specs.HexText.{digitOf, hexDigits, hexLine}
 use Rattle.answers.specs.ResultLine.{resultSize, refusalLine}
 use Rattle.answers.specs.Running.{resultIn, running, written, programWrites}
-use Rattle.answers.specs.Settle.{settlingIn, settling}
+use Rattle.answers.specs.Settle.{settling}
 use Rattle.text.specs.TextOf.{textOf}
 use Rattle.ticket_format.specs.Openings.{opening, opening64, afterOpening}
 use Rattle.ticket_format.specs.ReadingCases.{verdictOf}
 use Rattle.answers.specs.AnswerCases.{refusalRows, RefusalCases, ResultSizes, roomRows, RoomCases}
 
 pub refusal-cases : RefusalCases
-unfolding settling settlingIn refusalRows afterOpening opening opening64 textOf ascii programWrites written refusalLine bytesOf digitOf hexDigits hexLine resultSize resultIn running number numberFrom pointFrom withinLimits digitValue isDigit scan closed unclosed linesFrom linesOf proceed readFrom isKind headerSays afterProposal proposalSays failureLine placesCrash allBetween suitsStep crashSays failureSays lineSays unproposed withProposal withCrash begin store accept atEnd readTicket
+unfolding settling refusalRows afterOpening opening opening64 textOf ascii programWrites written refusalLine bytesOf digitOf hexDigits hexLine resultSize resultIn running number numberFrom pointFrom withinLimits digitValue isDigit scan closed unclosed linesFrom linesOf proceed readFrom isKind headerSays afterProposal proposalSays failureLine placesCrash allBetween suitsStep crashSays failureSays lineSays unproposed withProposal withCrash begin store accept atEnd readTicket
 refusal-cases = record { rows = refl; written = refl; settled = refl }
 
 pub result-sizes : ResultSizes

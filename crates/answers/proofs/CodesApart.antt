@@ -7,12 +7,14 @@ use Prim.Native.Nat.{ℕ, _≤_, _<_}
 use native.Mathlib.Omega.{arith}
 use lib.Dec.{ltb}
 use lib.ListN.{length}
+use Rattle.general.specs.Answer.{Answer, accepted, refused, andThen}
+use Rattle.general.proofs.Answer.{and-then-cases}
 use Rattle.consensus.specs.Instance.{Instance}
 use Rattle.coordinator.specs.Reason.{reasonOf, reasonsOf}
+use Rattle.coordinator.specs.Settling.{firstSettling}
 use Rattle.coordinator_laws.proofs.Counts.{counts-fit}
 use Rattle.coordinator_laws.proofs.FirstSettling.{first-settling}
 use Rattle.coordinator_laws.proofs.TrueReasons.{reason-within}
-use Rattle.ticket_format.specs.Reading.{Reading, accepted, refused}
 use Rattle.ticket_format.specs.Ticket.{readTicket}
 use Rattle.ticket_laws.proofs.WellFormed.{accepted-well-formed}
 use Rattle.ticket_format.proofs.RefusalRange.{RefusedBy, lastRefused, ticket-refused}
@@ -20,7 +22,7 @@ use Rattle.answers.specs.ResultLine.{resultText, resultSize}
 use Rattle.answers.proofs.ResultLength.{length-text}
 use Rattle.answers.proofs.ReasonsLength.{length-reasons, reasons-fit}
 use Rattle.answers.specs.Running.{resultIn, running}
-use Rattle.answers.specs.Settle.{settlingIn, settling}
+use Rattle.answers.specs.Settle.{settling}
 use Rattle.answers.specs.Reason.{withinRun, reasonIn, reason, reasonsSize, reasonsWithin, reasons}
 use Rattle.answers.specs.Code.{refusalsFrom, placedCode, codeOf}
 use Rattle.answers.specs.CodesApart.{TellsRefusal, Within, ReadOff, ofTicket, ofWriting, ofReason, CodesApart}
@@ -66,44 +68,32 @@ module _ (text : List ℕ) (x : Instance) (read : readTicket text ≡ accepted x
   reason-read p r true = accepted-read _ _ _ _ (omega arith) (reasonOf x p r) (reason-within x p r)
   reason-read p r false = refused-read _ _ _ _ 13 0 (omega arith) (omega arith) (omega arith) (inr refl)
 
--- The four calls, by what reading the ticket answers.
-module _ (text : List ℕ) where
-  run-read : (room : ℕ) (reading : Reading Instance) → readTicket text ≡ reading → RefusedBy lastRefused reading
-      → ReadOff length (resultSize 1) (resultSize 64) ofWriting (resultIn room reading)
-  unfolding resultIn RefusedBy resultSize
-  run-read room (accepted x) e h = result-read text x e (ltb room (resultSize (x .processes)))
-  run-read room (refused number line) e h =
-      refused-read _ _ _ _ number line (h .0) (omega (arith, h .1)) (omega (arith, h .2)) (h .0, omega (arith, h .1))
+-- A refused ticket is refused with its number and its line, whatever the call.
+pub of-ticket : {A : Type 0} (value : A → ℕ) (least most : ℕ) (numbers : ℕ → Type 0) (text : List ℕ) (next : Instance → Answer A)
+    → ((number : ℕ) → ofTicket number → numbers number) → ((x : Instance) → readTicket text ≡ accepted x → ReadOff value least most numbers (next x))
+    → ReadOff value least most numbers (andThen (readTicket text) next)
+unfolding RefusedBy
+of-ticket value least most numbers text next allowed given =
+    and-then-cases (ReadOff value least most numbers) (readTicket text) next given
+    (λ number line e.
+    let range : RefusedBy lastRefused (readTicket text) = ticket-refused text in
+    let (some, few, short) = rw e at range in
+    refused-read value least most numbers number line some (omega arith) (omega arith) (allowed number (some, few)))
 
-  -- A settling round is one of the run's, of which there are at most 64.
-  settling-read : (reading : Reading Instance) → readTicket text ≡ reading → RefusedBy lastRefused reading → ReadOff (λ r. r) 1 64 ofTicket (settlingIn reading)
-  unfolding settlingIn RefusedBy
-  settling-read (accepted x) e h =
-      let formed = accepted-well-formed text x e in
-      let (some, within) = first-settling x formed .within in
-      accepted-read _ _ _ _ (omega arith) _ (some, omega (arith, counts-fit x formed .rounds))
-  settling-read (refused number line) e h = refused-read _ _ _ _ number line (h .0) (omega (arith, h .1)) (omega (arith, h .2)) (h .0, h .1)
-
-  given-read : (p r : ℕ) (reading : Reading Instance) → readTicket text ≡ reading → RefusedBy lastRefused reading
-      → ReadOff (λ k. k) 1 7 ofReason (reasonIn p r reading)
-  unfolding reasonIn RefusedBy
-  given-read p r (accepted x) e h = reason-read text x e p r (withinRun x p r)
-  given-read p r (refused number line) e h = refused-read _ _ _ _ number line (h .0) (omega (arith, h .1)) (omega (arith, h .2)) (inl (h .0, h .1))
-
-  all-read : (room : ℕ) (reading : Reading Instance) → readTicket text ≡ reading → RefusedBy lastRefused reading
-      → ReadOff length 1 4096 ofWriting (reasonsWithin room reading)
-  unfolding reasonsWithin RefusedBy
-  all-read room (accepted x) e h = reasons-read text x e (ltb room (reasonsSize x))
-  all-read room (refused number line) e h =
-      refused-read _ _ _ _ number line (h .0) (omega (arith, h .1)) (omega (arith, h .2)) (h .0, omega (arith, h .1))
+-- A settling round is one of the run's, of which there are at most 64.
+settling-read : (text : List ℕ) (x : Instance) → readTicket text ≡ accepted x → ReadOff (λ r. r) 1 64 ofTicket (accepted (firstSettling x))
+settling-read text x e =
+    let formed = accepted-well-formed text x e in
+    let (some, within) = first-settling x formed .within in
+    accepted-read _ _ _ _ (omega arith) _ (some, omega (arith, counts-fit x formed .rounds))
 
 pub codes-apart : CodesApart
-unfolding running settling reason reasons
+unfolding running resultIn settling reason reasonIn reasons reasonsWithin
 codes-apart =
     record {
       placed = refusal-told;
-      run = λ text room. run-read text room (readTicket text) refl (ticket-refused text);
-      settled = λ text. settling-read text (readTicket text) refl (ticket-refused text);
-      reasonGiven = λ text p r. given-read text p r (readTicket text) refl (ticket-refused text);
-      reasonsWritten = λ text room. all-read text room (readTicket text) refl (ticket-refused text);
+      run = λ text room. of-ticket _ _ _ _ text _ (λ _ h. (h .0, omega (arith, h .1))) (λ x e. result-read text x e (ltb room (resultSize (x .processes))));
+      settled = λ text. of-ticket _ _ _ _ text _ (λ _ h. h) (settling-read text);
+      reasonGiven = λ text p r. of-ticket _ _ _ _ text _ (λ _ h. inl h) (λ x e. reason-read text x e p r (withinRun x p r));
+      reasonsWritten = λ text room. of-ticket _ _ _ _ text _ (λ _ h. (h .0, omega (arith, h .1))) (λ x e. reasons-read text x e (ltb room (reasonsSize x)));
     }

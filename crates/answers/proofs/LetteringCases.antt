@@ -32,7 +32,7 @@ use Rattle.ticket_format.specs.Reading.{proceed, readFrom}
 use Rattle.ticket_format.specs.Ticket.{atEnd, readTicket}
 use Rattle.answers.specs.ResultLine.{endBytes, processLine, lastLine, joined, lineBy, processLines, resultLines, resultText, resultSize}
 use Rattle.answers.specs.Running.{resultIn, running, bufferAfter}
-use Rattle.answers.specs.Settle.{settlingIn, settling}
+use Rattle.answers.specs.Settle.{settling}
 use Rattle.general.specs.Table.{tabulate}
 use Rattle.coordinator.specs.Reason.{stateAtStart, heardIn, reasonHearing, reasonFrom, reasonOf, reasonsIn, reasonsTo, reasonsOf}
 use Rattle.answers.specs.Reason.{withinRun, reasonIn, reason, reasonsSize, reasonsWithin, reasons}
@@ -59,7 +59,7 @@ abbrev buffer : List ℕ
 buffer = replicate 120 165
 
 accepted-texts : TwoLetterings (textOf (case1 .ticket)) (textOf (case1Mixed .ticket)) 101 1 2 8
-unfolding withinRun reasonIn reason reasonsSize reasonsWithin reasons tabulate stateAtStart heardIn reasonHearing reasonFrom reasonOf reasonsIn reasonsTo reasonsOf EqualUpToCase capital settling settlingIn lowestFrom firstSettling codeOf bufferAfter valuesHeld allAre oneValue qualifies textOf ascii member number numberFrom bytesOf mapFrom countFrom countOf addAt pointFrom faultOf withinLimits arriving getsData getsCommit sends receives amongFirst reachAt reachIn reach stateOf crashesIn sentBy received afterOutcome after statesAfter isUndecided anyUndecided speaks carries carriedIn dataIn commitsIn isIdle countsAsCrash crashCount initial withRound runTo runOf sentAfter dataBy commitsBy crashesOf digitValue isDigit scan closed unclosed linesFrom linesOf proceed readFrom isKind headerSays afterProposal proposalSays failureLine placesCrash allBetween suitsStep crashSays failureSays lineSays unproposed withProposal withCrash begin store accept atEnd readTicket digitOf hexDigits hexLine endBytes processLine lastLine joined lineBy processLines resultLines resultText resultSize resultIn running
+unfolding withinRun reasonIn reason reasonsSize reasonsWithin reasons tabulate stateAtStart heardIn reasonHearing reasonFrom reasonOf reasonsIn reasonsTo reasonsOf EqualUpToCase capital settling lowestFrom firstSettling codeOf bufferAfter valuesHeld allAre oneValue qualifies textOf ascii member number numberFrom bytesOf mapFrom countFrom countOf addAt pointFrom faultOf withinLimits arriving getsData getsCommit sends receives amongFirst reachAt reachIn reach stateOf crashesIn sentBy received afterOutcome after statesAfter isUndecided anyUndecided speaks carries carriedIn dataIn commitsIn isIdle countsAsCrash crashCount initial withRound runTo runOf sentAfter dataBy commitsBy crashesOf digitValue isDigit scan closed unclosed linesFrom linesOf proceed readFrom isKind headerSays afterProposal proposalSays failureLine placesCrash allBetween suitsStep crashSays failureSays lineSays unproposed withProposal withCrash begin store accept atEnd readTicket digitOf hexDigits hexLine endBytes processLine lastLine joined lineBy processLines resultLines resultText resultSize resultIn running
 accepted-texts =
     record {
       differ = different (textOf (case1 .ticket)) (textOf (case1Mixed .ticket)) 18 (λ e. omega arith);
@@ -78,7 +78,7 @@ accepted-texts =
     }
 
 refused-texts : TwoLetterings (textOf ("01040G" ∷ [])) (textOf ("01040g" ∷ [])) (refusalCode 2 1) (refusalCode 2 1) (refusalCode 2 1) (refusalCode 2 1)
-unfolding reasonIn reason reasonsWithin reasons EqualUpToCase capital settling settlingIn codeOf bufferAfter running resultIn textOf ascii digitValue isDigit scan closed unclosed linesFrom linesOf readFrom readTicket
+unfolding reasonIn reason reasonsWithin reasons EqualUpToCase capital settling codeOf bufferAfter running resultIn textOf ascii digitValue isDigit scan closed unclosed linesFrom linesOf readFrom readTicket
 refused-texts =
     record {
       differ = different (textOf ("01040G" ∷ [])) (textOf ("01040g" ∷ [])) 5 (λ e. omega arith);

@@ -1,3 +1,4 @@
+pub mod Replies
 pub mod AnswerCases
 pub mod ReasonCases
 pub mod Marked

@@ -31,7 +31,7 @@ use Rattle.ticket_format.specs.Ticket.{atEnd, readTicket}
 use Rattle.text.specs.HexText.{digitOf, hexDigits, hexLine}
 use Rattle.answers.specs.ResultLine.{endBytes, processLine, lastLine, joined, lineBy, processLines, resultLines, resultText, resultSize, refusalLine}
 use Rattle.answers.specs.Running.{resultIn, running, written, programWrites}
-use Rattle.answers.specs.Settle.{settlingIn, settling}
+use Rattle.answers.specs.Settle.{settling}
 use Rattle.answers.specs.Reason.{reasonsSize, reasonsWithin, reasons}
 use Rattle.answers.specs.Code.{codeOf}
 use Rattle.answers.specs.AnswerCases.{CodeCases}
@@ -44,10 +44,10 @@ use Rattle.answers.specs.LetterRuns.{letterRuns}
 
 -- For each case the program writes what the case says, and settling answers what the table says.
 pub marked-cases : MarkedCases
-unfolding reasoned digitsOf asSettled expectedReasons reasons reasonsWithin reasonsSize tabulate stateAtStart heardIn reasonHearing reasonFrom reasonOf reasonsIn reasonsTo reasonsOf writes expected settles settling settlingIn lowestFrom valuesHeld allAre oneValue qualifies firstSettling cases furtherRuns letterRuns opening opening64 textOf ascii member number numberFrom bytesOf mapFrom countFrom countOf addAt pointFrom faultOf withinLimits arriving getsData getsCommit sends receives amongFirst reachAt reachIn reach stateOf crashesIn sentBy received afterOutcome after statesAfter isUndecided anyUndecided speaks carries carriedIn dataIn commitsIn isIdle countsAsCrash crashCount initial withRound runTo runOf sentAfter dataBy commitsBy crashesOf digitValue isDigit scan closed unclosed linesFrom linesOf proceed readFrom isKind headerSays afterProposal proposalSays failureLine placesCrash allBetween suitsStep crashSays failureSays lineSays unproposed withProposal withCrash begin store accept atEnd readTicket digitOf hexDigits hexLine endBytes processLine lastLine joined lineBy processLines resultLines resultText resultSize refusalLine resultIn running written programWrites
+unfolding reasoned digitsOf asSettled expectedReasons reasons reasonsWithin reasonsSize tabulate stateAtStart heardIn reasonHearing reasonFrom reasonOf reasonsIn reasonsTo reasonsOf writes expected settles settling lowestFrom valuesHeld allAre oneValue qualifies firstSettling cases furtherRuns letterRuns opening opening64 textOf ascii member number numberFrom bytesOf mapFrom countFrom countOf addAt pointFrom faultOf withinLimits arriving getsData getsCommit sends receives amongFirst reachAt reachIn reach stateOf crashesIn sentBy received afterOutcome after statesAfter isUndecided anyUndecided speaks carries carriedIn dataIn commitsIn isIdle countsAsCrash crashCount initial withRound runTo runOf sentAfter dataBy commitsBy crashesOf digitValue isDigit scan closed unclosed linesFrom linesOf proceed readFrom isKind headerSays afterProposal proposalSays failureLine placesCrash allBetween suitsStep crashSays failureSays lineSays unproposed withProposal withCrash begin store accept atEnd readTicket digitOf hexDigits hexLine endBytes processLine lastLine joined lineBy processLines resultLines resultText resultSize refusalLine resultIn running written programWrites
 marked-cases = record { numbers = refl; written = refl; settled = refl; explained = refl }
 
 -- A C caller is answered as the specs say.
 pub code-cases : CodeCases
-unfolding CodeCases settling settlingIn lowestFrom valuesHeld allAre oneValue qualifies firstSettling codeOf opening textOf ascii member number numberFrom bytesOf mapFrom countFrom countOf addAt pointFrom faultOf withinLimits arriving getsData getsCommit sends receives amongFirst reachAt reachIn reach stateOf crashesIn sentBy received afterOutcome after statesAfter isUndecided anyUndecided speaks carries carriedIn dataIn commitsIn isIdle countsAsCrash crashCount initial withRound runTo runOf sentAfter dataBy commitsBy crashesOf digitValue isDigit scan closed unclosed linesFrom linesOf proceed readFrom isKind headerSays afterProposal proposalSays failureLine placesCrash allBetween suitsStep crashSays failureSays lineSays unproposed withProposal withCrash begin store accept atEnd readTicket digitOf hexDigits hexLine endBytes processLine lastLine joined lineBy processLines resultLines resultText resultSize resultIn running
+unfolding CodeCases settling lowestFrom valuesHeld allAre oneValue qualifies firstSettling codeOf opening textOf ascii member number numberFrom bytesOf mapFrom countFrom countOf addAt pointFrom faultOf withinLimits arriving getsData getsCommit sends receives amongFirst reachAt reachIn reach stateOf crashesIn sentBy received afterOutcome after statesAfter isUndecided anyUndecided speaks carries carriedIn dataIn commitsIn isIdle countsAsCrash crashCount initial withRound runTo runOf sentAfter dataBy commitsBy crashesOf digitValue isDigit scan closed unclosed linesFrom linesOf proceed readFrom isKind headerSays afterProposal proposalSays failureLine placesCrash allBetween suitsStep crashSays failureSays lineSays unproposed withProposal withCrash begin store accept atEnd readTicket digitOf hexDigits hexLine endBytes processLine lastLine joined lineBy processLines resultLines resultText resultSize resultIn running
 code-cases = refl

@@ -7,7 +7,7 @@ use Prim.Native.String.{String}
 use lib.ListN.{length, replicate}
 use Rattle.general.specs.Text.{ascii}
 use Rattle.answers.specs.ResultLine.{resultSize}
-use Rattle.ticket_format.specs.Reading.{refused}
+use Rattle.general.specs.Answer.{refused}
 use Rattle.answers.specs.Running.{running, programWrites}
 use Rattle.answers.specs.Settle.{settling}
 use Rattle.answers.specs.Code.{placedCode, sizeCode, numberCode}

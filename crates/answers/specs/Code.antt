@@ -4,7 +4,7 @@ use mathlib.Core.List.{List}
 use mathlib.Core.Path.{_≡_}
 use Prim.Native.Nat.{ℕ, _+_, _*_}
 use lib.ListN.{length}
-use Rattle.ticket_format.specs.Reading.{Reading, accepted, refused}
+use Rattle.general.specs.Answer.{Answer, accepted, refused}
 use Rattle.answers.specs.Running.{running, bufferAfter}
 use Rattle.answers.specs.Reason.{reasons}
 
@@ -26,20 +26,20 @@ abbrev pub refusalCode : (number line : ℕ) → ℕ
 refusalCode number line = placedCode 0 number line
 
 -- An answer as one number: that which `value` gives of what is accepted, or the refusal.
-unfoldable pub codeOf : {A : Type 0} → (value : A → ℕ) → Reading A → ℕ
+unfoldable pub codeOf : {A : Type 0} → (value : A → ℕ) → Answer A → ℕ
 codeOf value (accepted a) = value a
 codeOf value (refused number line) = refusalCode number line
 
 -- Of a call that writes (running; all reasons of a run): how many bytes it has written.
-abbrev pub sizeCode : Reading (List ℕ) → ℕ
+abbrev pub sizeCode : Answer (List ℕ) → ℕ
 sizeCode answer = codeOf length answer
 
 -- Of a call that answers a number (settling; the reason of a process in a round): the number itself.
-abbrev pub numberCode : Reading ℕ → ℕ
+abbrev pub numberCode : Answer ℕ → ℕ
 numberCode answer = codeOf (λ k. k) answer
 
 -- A call that writes, on a buffer that held `before`, answers this code and leaves `after`, where `answer` is by the room that there is.
-pub record WritingCall (answer : (room : ℕ) → Reading (List ℕ)) (before after : List ℕ) (code : ℕ) : Type 0 where
+pub record WritingCall (answer : (room : ℕ) → Answer (List ℕ)) (before after : List ℕ) (code : ℕ) : Type 0 where
   pub answered : code ≡ sizeCode (answer (length before))
   pub buffer : after ≡ bufferAfter (answer (length before)) before
 

@@ -5,7 +5,7 @@ use mathlib.Core.Path.{_≡_}
 use mathlib.Core.Logic.{_⊎_}
 use Prim.Native.Nat.{ℕ, _/_, _%_, _≤_, _<_}
 use lib.ListN.{length}
-use Rattle.ticket_format.specs.Reading.{Reading, accepted, refused}
+use Rattle.general.specs.Answer.{Answer, accepted, refused}
 use Rattle.answers.specs.ResultLine.{resultSize}
 use Rattle.answers.specs.Running.{running}
 use Rattle.answers.specs.Settle.{settling}
@@ -25,7 +25,7 @@ Within least most code = (least ≤ code) × (code ≤ most)
 
 -- What is read off the code of a call's answer. Where the call accepts, `value` is the number of what it answers, from `least` to `most`; `numbers` are
 -- those that it refuses with.
-pub record ReadOff {A : Type 0} (value : A → ℕ) (least most : ℕ) (numbers : ℕ → Type 0) (answer : Reading A) : Type 0 where
+pub record ReadOff {A : Type 0} (value : A → ℕ) (least most : ℕ) (numbers : ℕ → Type 0) (answer : Answer A) : Type 0 where
   -- below `refusalsFrom` it is the number of what was accepted
   pub isAccepted : codeOf value answer < refusalsFrom
       → (a : A) × (answer ≡ accepted a) × (codeOf value answer ≡ value a) × Within least most (codeOf value answer)

@@ -3,7 +3,7 @@
 -- line of a round above its process; messages that are sent and do not count (document 02, Paper 4); and runs that settle before anyone decides (Paper 6), by
 -- a crash or since the proposals are equal, and not where one of two values is 0.
 use mathlib.Core.List.{List, [], _∷_}
-use Rattle.ticket_format.specs.Reading.{accepted}
+use Rattle.general.specs.Answer.{accepted}
 use Rattle.answers.specs.Table.{Case, caseOf, withFailure, case8}
 
 -- Case 1 with count 0: all data leaves and no commit.

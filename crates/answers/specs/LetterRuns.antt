@@ -1,7 +1,7 @@
 -- Runs of tickets with small letters (document 02, Paper 1: "Digits of either case are accepted, mixed too; output keeps capitals"), with what the program
 -- writes for them by the second implementation.
 use mathlib.Core.List.{List, [], _∷_}
-use Rattle.ticket_format.specs.Reading.{accepted}
+use Rattle.general.specs.Answer.{accepted}
 use Rattle.answers.specs.Table.{Case, caseOf, case1}
 
 -- Case 1 in mixed letters.

@@ -2,6 +2,7 @@ pub mod ResultLine
 pub mod Running
 pub mod Settle
 pub mod Reason
+pub mod Reply
 pub mod Code
 pub mod CodesApart
 pub mod Table

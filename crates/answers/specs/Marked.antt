@@ -5,7 +5,7 @@ use mathlib.Core.Path.{_≡_}
 use Prim.Native.Nat.{ℕ, _-_}
 use Prim.Native.String.{String}
 use Rattle.general.specs.Text.{ascii}
-use Rattle.ticket_format.specs.Reading.{Reading, accepted, refused}
+use Rattle.general.specs.Answer.{Answer, accepted, refused}
 use Rattle.answers.specs.Running.{programWrites}
 use Rattle.answers.specs.Settle.{settling}
 use Rattle.answers.specs.Reason.{reasons}
@@ -23,11 +23,11 @@ unfoldable pub expected : Case → List ℕ
 expected c = textOf (c .output)
 
 -- What settling answers on the case's ticket.
-unfoldable pub settles : Case → Reading ℕ
+unfoldable pub settles : Case → Answer ℕ
 settles c = settling (textOf (c .ticket))
 
 -- All reasons of the case's ticket, in a buffer that has room for them.
-unfoldable pub reasoned : Case → Reading (List ℕ)
+unfoldable pub reasoned : Case → Answer (List ℕ)
 reasoned c = reasons (textOf (c .ticket)) 4096
 
 -- What the case says that they are: the digits of its lines, or the refusal that settling has too.
@@ -35,11 +35,11 @@ unfoldable pub digitsOf : List String → List ℕ
 digitsOf [] = []
 digitsOf (line ∷ lines) = map (λ c. c - 48) (ascii line) ++ digitsOf lines
 
-unfoldable pub asSettled : Reading ℕ → List ℕ → Reading (List ℕ)
+unfoldable pub asSettled : Answer ℕ → List ℕ → Answer (List ℕ)
 asSettled (accepted r) digits = accepted digits
 asSettled (refused number line) digits = refused number line
 
-unfoldable pub expectedReasons : Case → Reading (List ℕ)
+unfoldable pub expectedReasons : Case → Answer (List ℕ)
 expectedReasons c = asSettled (c .settled) (digitsOf (c .reasons))
 
 -- The claim: cases 1 to 12, each of them, are what the definitions give, from the ticket's text to the text written (document 01, 'Worked runs': "Cases 1

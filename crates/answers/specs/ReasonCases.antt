@@ -4,7 +4,7 @@ use mathlib.Core.List.{List, [], _∷_, map}
 use mathlib.Core.Path.{_≡_}
 use Prim.Native.Nat.{ℕ}
 use lib.ListN.{length}
-use Rattle.ticket_format.specs.Reading.{Reading, accepted, refused}
+use Rattle.general.specs.Answer.{Answer, accepted, refused}
 use Rattle.answers.specs.Reason.{reason, reasons}
 use Rattle.answers.specs.Code.{sizeCode, numberCode}
 use Rattle.text.specs.TextOf.{textOf}
@@ -15,9 +15,9 @@ use Rattle.answers.specs.AnswerCases.{RefusalRow, refusalRows}
 pub record Asked : Type 0 where
   pub process : ℕ
   pub round : ℕ
-  pub answer : Reading ℕ
+  pub answer : Answer ℕ
 
-abbrev pub ask : (process round : ℕ) → Reading ℕ → Asked
+abbrev pub ask : (process round : ℕ) → Answer ℕ → Asked
 ask process round answer = record { process = process; round = round; answer = answer }
 
 -- Of case 1, which has four processes and two of t + 1 = 3 rounds. The numbers are never cut: 257 is 1 in eight bits, 65537 in sixteen, and 4294967297 in 32.
@@ -31,10 +31,10 @@ askedOfCase1 =
     ∷ ask 1 18446744073709551615 (refused 13 0) ∷ []
 
 -- What is answered on a text to a list of such questions, and what the list says.
-unfoldable pub answersOn : List ℕ → List Asked → List (Reading ℕ)
+unfoldable pub answersOn : List ℕ → List Asked → List (Answer ℕ)
 answersOn text asked = map (λ (q : Asked). reason text (q .process) (q .round)) asked
 
-unfoldable pub answersIn : List Asked → List (Reading ℕ)
+unfoldable pub answersIn : List Asked → List (Answer ℕ)
 answersIn asked = map (λ (q : Asked). q .answer) asked
 
 pub record ReasonCases : Type 0 where

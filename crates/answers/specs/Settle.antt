@@ -2,16 +2,10 @@
 -- too").
 use mathlib.Core.List.{List}
 use Prim.Native.Nat.{ℕ}
-use Rattle.consensus.specs.Instance.{Instance}
 use Rattle.coordinator.specs.Settling.{firstSettling}
-use Rattle.ticket_format.specs.Reading.{Reading, accepted, refused}
+use Rattle.general.specs.Answer.{Answer, accepted, andThen}
 use Rattle.ticket_format.specs.Ticket.{readTicket}
 
--- The settling round of an instance, or the refusal.
-unfoldable pub settlingIn : Reading Instance → Reading ℕ
-settlingIn (accepted x) = accepted (firstSettling x)
-settlingIn (refused number line) = refused number line
-
 -- What settling answers on a text: the lowest round that qualifies, or a refusal, 1 to 8, with its line.
-unfoldable pub settling : (text : List ℕ) → Reading ℕ
-settling text = settlingIn (readTicket text)
+unfoldable pub settling : (text : List ℕ) → Answer ℕ
+settling text = andThen (readTicket text) (λ x. accepted (firstSettling x))

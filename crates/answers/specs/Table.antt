@@ -4,7 +4,7 @@
 use mathlib.Core.List.{List, [], _∷_, _++_}
 use Prim.Native.Nat.{ℕ}
 use Prim.Native.String.{String}
-use Rattle.ticket_format.specs.Reading.{Reading, accepted, refused}
+use Rattle.general.specs.Answer.{Answer, accepted, refused}
 use Rattle.ticket_format.specs.Openings.{opening, opening64}
 
 -- A ticket and the result or the refusal that it gets, under document 01's number, or from 13 on that of a further run, from 23 on in small letters.
@@ -13,15 +13,15 @@ pub record Case : Type 0 where
   pub ticket : List String
   pub output : List String
   -- the settling round, or the refusal
-  pub settled : Reading ℕ
+  pub settled : Answer ℕ
   -- the reasons, a line of digits for each round, in which process p stands at place p - 1; none of a refused ticket
   pub reasons : List String
 
-abbrev pub caseOf : ℕ → (ticket output : List String) → (settled : Reading ℕ) → (reasons : List String) → Case
+abbrev pub caseOf : ℕ → (ticket output : List String) → (settled : Answer ℕ) → (reasons : List String) → Case
 caseOf number ticket output settled reasons = record { number = number; ticket = ticket; output = output; settled = settled; reasons = reasons }
 
 -- Case 1's header and proposals with one failure line.
-abbrev pub withFailure : ℕ → (line : String) → (output : List String) → (settled : Reading ℕ) → (reasons : List String) → Case
+abbrev pub withFailure : ℕ → (line : String) → (output : List String) → (settled : Answer ℕ) → (reasons : List String) → Case
 withFailure number line output settled reasons = caseOf number (opening ++ (line ∷ "04" ∷ [])) output settled reasons
 
 -- Case 1: process 1 crashes after one commit.

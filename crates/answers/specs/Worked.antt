@@ -7,7 +7,7 @@ use Rattle.consensus.specs.Instance.{Instance}
 use Rattle.coordinator.specs.Run.{runOf}
 use Rattle.coordinator.specs.SpeakerLimits.{mostCommits}
 use Rattle.coordinator.specs.WorkedRuns.{qualifyingRounds}
-use Rattle.ticket_format.specs.Reading.{Reading, accepted, refused}
+use Rattle.general.specs.Answer.{Answer, accepted, refused}
 use Rattle.ticket_format.specs.Ticket.{readTicket}
 use Rattle.text.specs.TextOf.{textOf}
 use Rattle.answers.specs.Table.{Case, case1, case2, case3, case4, case5, case6, case7, case8, case9}
@@ -15,7 +15,7 @@ use Rattle.answers.specs.FurtherRuns.{furtherRuns}
 use Rattle.answers.specs.LetterRuns.{letterRuns}
 
 -- The rounds that qualify in the run of a ticket as read.
-unfoldable pub qualifyingIn : Reading Instance → List ℕ
+unfoldable pub qualifyingIn : Answer Instance → List ℕ
 qualifyingIn (accepted x) = qualifyingRounds x
 qualifyingIn (refused refusal line) = []
 
@@ -31,7 +31,7 @@ RoundsThatQualify =
     ∷ (1 ∷ 2 ∷ []) ∷ (1 ∷ []) ∷ (1 ∷ []) ∷ (2 ∷ 3 ∷ []) ∷ []
 
 -- n, the speakers, the commit messages that count, and the most that there may be of them, of a ticket as read.
-unfoldable pub commitBoundOf : Reading Instance → List ℕ
+unfoldable pub commitBoundOf : Answer Instance → List ℕ
 commitBoundOf (accepted x) = x .processes ∷ runOf x .speakers ∷ runOf x .commitsSent ∷ mostCommits x ∷ []
 commitBoundOf (refused refusal line) = []
 

@@ -12,7 +12,7 @@ use borrow.Author.Tests.{eq-eqb, ne-eqb}
 use Rattle.general.specs.Bits.{setOf}
 use Rattle.general.proofs.Sets.{set-within}
 use Rattle.general.proofs.Tests.{by-equal}
-use Rattle.coordinator_crashes.specs.CrashSets.{CrashSets}
+use Rattle.coordinator_crashes.specs.code.CrashSets.{CrashSets}
 
 -- The processes below p have been put into the sets of their rounds.
 pub record PutBelow (n : ℕ) (rounds sets : List ℕ) (p : ℕ) : Type 0 where

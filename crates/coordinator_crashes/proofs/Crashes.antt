@@ -12,11 +12,11 @@ use Rattle.consensus.specs.CrashCount.{countsAsCrash, crashCount}
 use Rattle.consensus.proofs.CrashCount.{counts-once}
 use Rattle.tables.specs.declared.InstanceTable.{InstanceTable}
 use Rattle.tables.specs.declared.RunTable.{RunTable}
-use Rattle.tables.specs.InstanceOfTable.{tableOf, faultFrom, faultIn, instanceOf}
-use Rattle.tables.specs.RunOfTable.{stateByEnd, stateOver, statesOver, statesIn}
+use Rattle.tables.specs.code.InstanceOfTable.{tableOf, faultFrom, faultIn, instanceOf}
+use Rattle.tables.specs.code.RunOfTable.{stateByEnd, stateOver, statesOver, statesIn}
 use Rattle.tables.proofs.Places.{length-pattern, length-states-over, fault-at, state-over}
 use Rattle.coordinator_sending.proofs.Counting.{by-round-and-end}
-use Rattle.coordinator_crashes.specs.CrashCountOver.{faultsBy, statesBy, crashCountOver}
+use Rattle.coordinator_crashes.specs.code.CrashCountOver.{faultsBy, statesBy, crashCountOver}
 
 -- The faults and the states from process p on.
 abbrev restCount : List Fault → List State → ℕ → ℕ

@@ -2,8 +2,8 @@
 ghost use mathlib.Core.Path.{_≡_};
 ghost use Prim.Native.Nat.{_≤_};
 ghost use lib.ListN.{length};
-ghost use Rattle.coordinator_crashes.specs.CrashSets.{CrashSets};
-ghost use Rattle.coordinator_crashes.specs.CrashCountOver.{crashCountOver};
+ghost use Rattle.coordinator_crashes.specs.code.CrashSets.{CrashSets};
+ghost use Rattle.coordinator_crashes.specs.code.CrashCountOver.{crashCountOver};
 use coordinator_sending::count;
 
 // The sets of the processes, of n, that have the same crash round, that of round r at place r - 1. No run has a round above 64.

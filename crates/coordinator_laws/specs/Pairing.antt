@@ -1,4 +1,4 @@
--- Pairing by instance, of demand 3's second half (document 01, 'A round', last paragraph): `InstancesClaim` of demands/specs is stated in it, and texts
+-- Pairing by instance, of demand 3's second half (document 01, 'A round', last paragraph): `Demand3` of demands/specs is stated in it, and texts
 -- that are paired line by line (`PairedTexts`) describe instances that are paired so.
 use mathlib.Core.Path.{_≡_}
 use Prim.Native.Nat.{ℕ, _≤_}

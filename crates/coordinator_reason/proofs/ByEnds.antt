@@ -8,7 +8,7 @@ use Rattle.general.specs.Bits.{member}
 use Rattle.consensus.specs.Instance.{pointFrom}
 use Rattle.coordinator.specs.Message.{dataOnly, all, getsData}
 use Rattle.coordinator.specs.Delivery.{amongFirst, reachAt}
-use Rattle.coordinator_reason.specs.ByEnds.{dataReaches, reasonWaiting, reasonEnding, reasonByEnd}
+use Rattle.coordinator_reason.specs.code.ByEnds.{dataReaches, reasonWaiting, reasonEnding, reasonByEnd}
 
 -- With the commits the data get there too.
 pub data-leaves : (b : Bool) → getsData (cond b all dataOnly) ≡ true

@@ -8,7 +8,7 @@ use borrow.Rule.Slice.PartMut.{midOf, putMid}
 use lib.ListN.{length, drop, getD, length-append, length-drop}
 use Rattle.general.proofs.Table.{length-tabulate}
 use Rattle.general.proofs.Overwrite.{put-part}
-use Rattle.coordinator_reason.specs.ByEnds.{rowByEnds, rowsByEnds}
+use Rattle.coordinator_reason.specs.code.ByEnds.{rowByEnds, rowsByEnds}
 
 -- Where the row behind i others begins, and that it fits where all rows do.
 pub small-product : (i n : ℕ) → i ≤ 64 → n ≤ 64 → i * n ≤ 4096

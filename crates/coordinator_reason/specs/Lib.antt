@@ -1,1 +1,1 @@
-pub mod ByEnds
+pub mod code

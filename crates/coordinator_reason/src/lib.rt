@@ -3,7 +3,7 @@ ghost use mathlib.Core.Path.{_≡_};
 ghost use mathlib.Core.List.{_++_};
 ghost use Prim.Native.Nat.{_-_, _*_, _≤_};
 ghost use lib.ListN.{length, drop, getD};
-ghost use Rattle.coordinator_reason.specs.ByEnds.{reasonWaiting, reasonEnding, reasonByEnd, rowByEnds, rowsByEnds};
+ghost use Rattle.coordinator_reason.specs.code.ByEnds.{reasonWaiting, reasonEnding, reasonByEnd, rowByEnds, rowsByEnds};
 
 // The reasons, in document 02's numbers: coordinated and decided; heard value and commit; heard the value only; heard nothing, the coordinator having
 // crashed before this round, or in it; crashed itself; crashed or decided earlier.

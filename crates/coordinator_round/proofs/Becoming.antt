@@ -12,7 +12,7 @@ use Rattle.consensus.specs.State.{State, undecided, decided, crashed, crashesIn
 use Rattle.coordinator.specs.Round.{sentBy, afterOutcome, after}
 use Rattle.coordinator.specs.Undecided.{isUndecided}
 use Rattle.coordinator_laws.proofs.Ended.{after-ended}
-use Rattle.tables.specs.RunOfTable.{stateByEnd}
+use Rattle.tables.specs.code.RunOfTable.{stateByEnd}
 
 -- An end of 0 is that of a process up and undecided, and what such a process sends in its round.
 module _ (end endRound value : ℕ) where

@@ -26,11 +26,11 @@ use Rattle.coordinator_laws.proofs.SentSets.{none-to-itself}
 use Rattle.coordinator_laws.proofs.Carried.{carried-size}
 use Rattle.coordinator_laws.proofs.Pointwise.{receivedIn, states-ext, round-state}
 use Rattle.tables.specs.declared.RunTable.{RunTable}
-use Rattle.tables.specs.RunOfTable.{statesIn, runOver, runFrom}
+use Rattle.tables.specs.code.RunOfTable.{statesIn, runOver, runFrom}
 use Rattle.tables.proofs.Places.{length-states-over, state-over}
 use Rattle.coordinator_sending.specs.declared.Sent.{Sent}
-use Rattle.coordinator_sending.specs.Sending.{sendingBy}
-use Rattle.coordinator_round.specs.Round.{RoundAllowed, RoundOf, RoundRun}
+use Rattle.coordinator_sending.specs.code.Sending.{sendingBy}
+use Rattle.coordinator_round.specs.code.Round.{RoundAllowed, RoundOf, RoundRun}
 use Rattle.coordinator_round.proofs.Becoming.{undecided-end, sent-by-end, becomes}
 use Rattle.coordinator_round.proofs.Stored.{Sized, Stored, sized-next, waits-as, state-after, kept-after}
 

@@ -16,11 +16,11 @@ use Rattle.coordinator.specs.Delivery.{reach}
 use Rattle.consensus.specs.State.{State, stateOf}
 use Rattle.coordinator.specs.Undecided.{isUndecided}
 use Rattle.tables.specs.declared.RunTable.{RunTable}
-use Rattle.tables.specs.RunOfTable.{statesIn}
+use Rattle.tables.specs.code.RunOfTable.{statesIn}
 use Rattle.tables.proofs.Places.{state-over}
 use Rattle.coordinator_sending.specs.declared.Sent.{Sent}
-use Rattle.coordinator_sending.specs.Sending.{sendingBy}
-use Rattle.coordinator_round.specs.Round.{undecidedSet, RoundAllowed}
+use Rattle.coordinator_sending.specs.code.Sending.{sendingBy}
+use Rattle.coordinator_round.specs.code.Round.{undecidedSet, RoundAllowed}
 use Rattle.coordinator_round.proofs.Becoming.{undecided-end, stays, decides, adopts, storedState, still-undecided}
 
 -- The arrays of a run table have 64 places.

@@ -1,6 +1,6 @@
 // One round of all processes (document 01, 'A round'): the run as it begins goes in by value and comes back as it ends.
-ghost use Rattle.tables.specs.InstanceOfTable.{faultFrom};
-ghost use Rattle.coordinator_round.specs.Round.{RoundAllowed, RoundRun};
+ghost use Rattle.tables.specs.code.InstanceOfTable.{faultFrom};
+ghost use Rattle.coordinator_round.specs.code.Round.{RoundAllowed, RoundRun};
 use coordinator_sending::count;
 use tables::RunTable;
 

@@ -20,13 +20,13 @@ use Rattle.coordinator_laws.proofs.Undecided.{none-undecided, not-any}
 use Rattle.coordinator_laws.proofs.Counts.{speakers-le, data-sent-le, commits-sent-le}
 use Rattle.tables.specs.declared.InstanceTable.{InstanceTable}
 use Rattle.tables.specs.declared.RunTable.{RunTable}
-use Rattle.tables.specs.InstanceOfTable.{faultFrom, instanceOf}
-use Rattle.tables.specs.RunOfTable.{stateByEnd, stateOver, statesOver, statesIn, runOver, runFrom}
+use Rattle.tables.specs.code.InstanceOfTable.{faultFrom, instanceOf}
+use Rattle.tables.specs.code.RunOfTable.{stateByEnd, stateOver, statesOver, statesIn, runOver, runFrom}
 use Rattle.tables.proofs.Places.{processes-of, fault-at, state-over, length-states-over}
 use Rattle.coordinator_sending.proofs.Cases.{crashes-by-round}
-use Rattle.coordinator_crashes.specs.CrashSets.{CrashSets}
-use Rattle.tables.specs.InitialTable.{initialTable}
-use Rattle.coordinator_round.specs.Round.{undecidedSet, RoundAllowed, RoundOf, RoundRun}
+use Rattle.coordinator_crashes.specs.code.CrashSets.{CrashSets}
+use Rattle.tables.specs.code.InitialTable.{initialTable}
+use Rattle.coordinator_round.specs.code.Round.{undecidedSet, RoundAllowed, RoundOf, RoundRun}
 use Rattle.coordinator_run.proofs.TableLimits.{limits, rounds-fit}
 
 -- The run as round r begins, one of rounds 1 to `last` or the one after them, and the sets of those that crash in each round.

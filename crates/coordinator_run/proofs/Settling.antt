@@ -19,11 +19,11 @@ use Rattle.coordinator_laws.proofs.RunRounds.{run-rounds}
 use Rattle.coordinator_laws.proofs.FirstSettling.{unsettled-within, settles-first, first-settling}
 use Rattle.tables.specs.declared.InstanceTable.{InstanceTable}
 use Rattle.tables.specs.declared.RunTable.{RunTable}
-use Rattle.tables.specs.InstanceOfTable.{instanceOf}
-use Rattle.tables.specs.RunOfTable.{statesIn, runOver}
+use Rattle.tables.specs.code.InstanceOfTable.{instanceOf}
+use Rattle.tables.specs.code.RunOfTable.{statesIn, runOver}
 use Rattle.tables.proofs.Places.{resilience-of}
-use Rattle.coordinator_round.specs.Round.{RoundRun}
-use Rattle.coordinator_run.specs.Running.{stopsAt, RunTo, RunUntil, RunOf}
+use Rattle.coordinator_round.specs.code.Round.{RoundRun}
+use Rattle.coordinator_run.specs.code.Running.{stopsAt, RunTo, RunUntil, RunOf}
 use Rattle.coordinator_run.proofs.AtRound.{AtRound, numbered, at-next-round, over}
 use Rattle.coordinator_run.proofs.Whole.{SentBefore, ended-early, ended-late}
 

@@ -5,7 +5,7 @@ use lib.ListN.{length, take, length-take}
 use Rattle.general.proofs.Indexed.{length-mapFrom}
 use Rattle.coordinator.specs.WellFormed.{WellFormed}
 use Rattle.tables.specs.declared.InstanceTable.{InstanceTable}
-use Rattle.tables.specs.InstanceOfTable.{faultIn, instanceOf}
+use Rattle.tables.specs.code.InstanceOfTable.{faultIn, instanceOf}
 
 module _ (x : InstanceTable) (w : WellFormed (instanceOf x)) where
   pub limits : (1 ≤ x .n) × (x .n ≤ 64) × (x .t < x .n)

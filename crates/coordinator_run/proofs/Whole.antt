@@ -21,11 +21,11 @@ use Rattle.coordinator_laws.proofs.Carried.{data-in-le, commits-in-le}
 use Rattle.coordinator_laws.proofs.MessagesBySender.{data-silent, commits-silent, sent-round, length-sent, count-sent, sent-ended}
 use Rattle.tables.specs.declared.InstanceTable.{InstanceTable}
 use Rattle.tables.specs.declared.RunTable.{RunTable}
-use Rattle.tables.specs.InstanceOfTable.{instanceOf}
-use Rattle.tables.specs.RunOfTable.{runOver, runFrom}
+use Rattle.tables.specs.code.InstanceOfTable.{instanceOf}
+use Rattle.tables.specs.code.RunOfTable.{runOver, runFrom}
 use Rattle.tables.proofs.Places.{processes-of}
-use Rattle.coordinator_run.specs.Running.{NoneSent, RunTo}
-use Rattle.coordinator_round.specs.Round.{RoundRun}
+use Rattle.coordinator_run.specs.code.Running.{NoneSent, RunTo}
+use Rattle.coordinator_round.specs.code.Round.{RoundRun}
 use Rattle.coordinator_run.proofs.TableLimits.{limits}
 use Rattle.coordinator_run.proofs.AtRound.{AtRound, numbered, next-run, over}
 

@@ -2,20 +2,18 @@
 // run has settled (document 02, Paper 6).
 // The instance's arrays are lent; the run is a table by value that goes through each round and comes back. What counts of what each process sends is
 // kept beside it, in two lent arrays (document 02, Papers 2 and 4).
-ghost use Prim.Native.Nat.{_+_, _≤_};
 ghost use Rattle.coordinator.specs.WellFormed.{WellFormed};
-ghost use Rattle.tables.specs.InstanceOfTable.{tableOf, instanceOf};
-ghost use Rattle.coordinator_run.specs.Running.{NoneSent, RunUntil, RunOf};
+ghost use Rattle.tables.specs.code.InstanceOfTable.{tableOf, instanceOf};
+ghost use Rattle.coordinator_run.specs.code.Running.{NoneSent, RunOf};
 use tables::RunTable;
 
-// The run after rounds 1 to `last`, or after the earlier round by which no process is both up and undecided; its `undecided` is the set by its arrays. With
-// `until_settled` it stops at the end of the settling round, if that comes first.
+// The whole run: rounds 1 to t + 1, or to the earlier round by which no process is both up and undecided. With `until_settled` it stops at the end of the
+// settling round. The run's `undecided` is the set by its arrays.
 // What a round counts is kept for its coordinator in the two arrays that are lent, which hold no count at first.
-pub fn run_to<'a>(
+pub fn run_all<'a>(
     n: u8,
     t: u8,
     values: [u32; 64],
-    last: u8,
     until_settled: bool,
     crash_rounds: &'a [u8; 64],
     steps: &'a [u8; 64],
@@ -24,12 +22,13 @@ pub fn run_to<'a>(
     data_by: &mut [u8; 64],
     commits_by: &mut [u8; 64],
 ) -> RunTable
-    requires { ⌜ WellFormed (instanceOf (tableOf n t values (now «crash_rounds») (now steps) (now reached) (now counts))) × (last ≤ t + 1)
+    requires { ⌜ WellFormed (instanceOf (tableOf n t values (now «crash_rounds») (now steps) (now reached) (now counts)))
         × NoneSent (now «data_by») (now «commits_by») ⌝ }
-    ensures { λ run. ⌜ RunUntil
-        (instanceOf (tableOf n t values (now («crash_rounds» .entry)) (now (steps .entry)) (now (reached .entry)) (now (counts .entry)))) last
+    ensures { λ run. ⌜ RunOf
+        (instanceOf (tableOf n t values (now («crash_rounds» .entry)) (now (steps .entry)) (now (reached .entry)) (now (counts .entry))))
         «until_settled» n run (now («data_by» .exit)) (now («commits_by» .exit)) ⌝ }
 {
+    let last = t + 1;
     let faulty = coordinator_crashes::crash_sets(n, crash_rounds);
     let mut run = tables::initial_run(n, values);
     let mut r: u8 = 1;
@@ -60,38 +59,4 @@ pub fn run_to<'a>(
         r += 1;
     }
     run
-}
-
-// The whole run: rounds 1 to t + 1. With `until_settled`, the run up to the end of its settling round.
-pub fn run_all<'a>(
-    n: u8,
-    t: u8,
-    values: [u32; 64],
-    until_settled: bool,
-    crash_rounds: &'a [u8; 64],
-    steps: &'a [u8; 64],
-    reached: &'a [u64; 64],
-    counts: &'a [u8; 64],
-    data_by: &mut [u8; 64],
-    commits_by: &mut [u8; 64],
-) -> RunTable
-    requires { ⌜ WellFormed (instanceOf (tableOf n t values (now «crash_rounds») (now steps) (now reached) (now counts)))
-        × NoneSent (now «data_by») (now «commits_by») ⌝ }
-    ensures { λ run. ⌜ RunOf
-        (instanceOf (tableOf n t values (now («crash_rounds» .entry)) (now (steps .entry)) (now (reached .entry)) (now (counts .entry))))
-        «until_settled» n run (now («data_by» .exit)) (now («commits_by» .exit)) ⌝ }
-{
-    run_to(
-        n,
-        t,
-        values,
-        t + 1,
-        until_settled,
-        crash_rounds,
-        steps,
-        reached,
-        counts,
-        data_by,
-        commits_by,
-    )
 }

@@ -7,7 +7,7 @@ use lib.Dec.{eqb}
 use borrow.Author.Tests.{eqb-true, ne-eqb}
 use Rattle.consensus.specs.Instance.{Fault, correct, crashes, CrashPoint, beforeSending, duringData, duringCommits, pointFrom}
 use Rattle.consensus.specs.State.{crashesIn}
-use Rattle.tables.specs.InstanceOfTable.{faultFrom}
+use Rattle.tables.specs.code.InstanceOfTable.{faultFrom}
 
 -- The fault of a crash round that is that of this round.
 pub crash-of-round : (r round step set count : ℕ) → 1 ≤ r → round ≡ r → faultFrom round step set count ≡ crashes r (pointFrom step set count)

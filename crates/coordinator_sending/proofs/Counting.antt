@@ -7,8 +7,8 @@ use borrow.Author.Tests.{ne-eqb, lt-ltb, le-ltb}
 use Rattle.consensus.specs.Instance.{Fault, correct, crashes, pointFrom}
 use Rattle.consensus.specs.State.{State, undecided, decided, crashed}
 use Rattle.consensus.specs.CrashCount.{isIdle, countsAsCrash}
-use Rattle.tables.specs.InstanceOfTable.{faultFrom}
-use Rattle.tables.specs.RunOfTable.{stateByEnd}
+use Rattle.tables.specs.code.InstanceOfTable.{faultFrom}
+use Rattle.tables.specs.code.RunOfTable.{stateByEnd}
 
 -- 1 for a failure line that is not idle.
 module _ (round end ended : ℕ) where

@@ -12,9 +12,9 @@ use Rattle.coordinator.specs.Delivery.{reach}
 use Rattle.coordinator.specs.WellFormed.{PointAllowed}
 use Rattle.coordinator.specs.SentSets.{aboveSet, dataSetAt, commitSetAt}
 use Rattle.coordinator_laws.proofs.SentSets.{data-to-all, commits-to-all, data-at-crash, commits-at-crash}
-use Rattle.tables.specs.InstanceOfTable.{faultFrom}
+use Rattle.tables.specs.code.InstanceOfTable.{faultFrom}
 use Rattle.coordinator_sending.specs.declared.Sent.{Sent}
-use Rattle.coordinator_sending.specs.Sending.{SendingAllowed, sendingBy}
+use Rattle.coordinator_sending.specs.code.Sending.{SendingAllowed, sendingBy}
 use Rattle.coordinator_sending.proofs.Cases.{crash-of-round, any-fault, at-step-0, at-step-1, at-step-2}
 
 abbrev sentTo : (coordinator reached committed : ℕ) → Sent

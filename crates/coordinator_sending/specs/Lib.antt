@@ -1,1 +1,1 @@
-pub mod Sending
+pub mod code

@@ -4,8 +4,8 @@ ghost use mathlib.Core.Bool.{cond};
 ghost use Prim.Native.Nat.{_≤_};
 ghost use Rattle.general.specs.Bits.{member};
 ghost use Rattle.consensus.specs.CrashCount.{countsAsCrash};
-ghost use Rattle.tables.specs.InstanceOfTable.{faultFrom};
-ghost use Rattle.tables.specs.RunOfTable.{stateByEnd};
+ghost use Rattle.tables.specs.code.InstanceOfTable.{faultFrom};
+ghost use Rattle.tables.specs.code.RunOfTable.{stateByEnd};
 
 // 1 for a coordinator that begins its round up and undecided: a speaker.
 pub fn speakers_in(r: u8, undecided: u64) -> u8

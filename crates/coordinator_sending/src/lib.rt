@@ -5,8 +5,8 @@ ghost use Prim.Native.Nat.{_≤_};
 ghost use Rattle.general.specs.Bits.{member};
 ghost use Rattle.consensus.specs.Instance.{crashes, pointFrom};
 ghost use Rattle.coordinator.specs.WellFormed.{PointAllowed};
-ghost use Rattle.tables.specs.InstanceOfTable.{faultFrom};
-ghost use Rattle.coordinator_sending.specs.Sending.{sendingBy, SendingAllowed};
+ghost use Rattle.tables.specs.code.InstanceOfTable.{faultFrom};
+ghost use Rattle.coordinator_sending.specs.code.Sending.{sendingBy, SendingAllowed};
 
 pub mod count;
 

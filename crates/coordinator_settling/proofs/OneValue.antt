@@ -12,7 +12,7 @@ use Rattle.general.specs.Indexed.{mapFrom}
 use Rattle.general.proofs.Tests.{by-equal}
 use Rattle.consensus.specs.State.{State, undecided, decided, crashed, stateOf}
 use Rattle.coordinator.specs.Settling.{valuesHeld, allAre, oneValue}
-use Rattle.tables.specs.RunOfTable.{stateByEnd, stateOver, statesOver}
+use Rattle.tables.specs.code.RunOfTable.{stateByEnd, stateOver, statesOver}
 use Rattle.tables.proofs.Places.{length-states-over, state-over}
 
 -- Whether values are one, where the value of those before is known, or where there was none before.

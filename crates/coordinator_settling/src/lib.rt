@@ -3,7 +3,7 @@ ghost use mathlib.Core.Path.{_≡_};
 ghost use Prim.Native.Nat.{_≤_};
 ghost use lib.ListN.{length};
 ghost use Rattle.coordinator.specs.Settling.{valuesHeld, oneValue};
-ghost use Rattle.tables.specs.RunOfTable.{statesIn};
+ghost use Rattle.tables.specs.code.RunOfTable.{statesIn};
 use tables::RunTable;
 
 // Whether those of n processes that are not crashed hold one value.

@@ -8,7 +8,7 @@ use borrow.Author.Tests.{ltb-true, ltb-false}
 use lib.Dec.{ltb}
 use lib.ListN.{length}
 use Rattle.consensus.specs.Instance.{Instance}
-use Rattle.ticket_format.specs.Reading.{Reading, accepted, refused}
+use Rattle.general.specs.Answer.{Answer, accepted, refused, andThen}
 use Rattle.ticket_format.specs.Ticket.{readTicket}
 use Rattle.answers.specs.ResultLine.{resultText, resultSize}
 use Rattle.answers.specs.Running.{resultIn, running, bufferAfter}
@@ -21,7 +21,7 @@ use Rattle.ticket_laws.proofs.RefusedTexts.{refused-wrong}
 use Rattle.demands.specs.Demand1.{wrong, tooShort, RunAnswered, result, refusal}
 
 -- The three answers of running.
-pub data RunCase (text : List ℕ) (room : ℕ) : Reading (List ℕ) → Type 0 where
+pub data RunCase (text : List ℕ) (room : ℕ) : Answer (List ℕ) → Type 0 where
   fits : (x : Instance) → readTicket text ≡ accepted x → resultSize (x .processes) ≤ room → RunCase text room (accepted (resultText x))
   short : (x : Instance) → readTicket text ≡ accepted x → room < resultSize (x .processes) → RunCase text room (refused 9 0)
   unread : (number line : ℕ) → readTicket text ≡ refused number line → RunCase text room (refused number line)
@@ -31,11 +31,11 @@ unfolding running resultIn
 run-case text room = by-reading (readTicket text) refl
   where
     by-room : (x : Instance) → readTicket text ≡ accepted x → (b : Bool) → ltb room (resultSize (x .processes)) ≡ b
-        → RunCase text room (resultIn room (accepted x))
+        → RunCase text room (resultIn room x)
     by-room x e true h = rw h (short x e (ltb-true _ _ h))
     by-room x e false h = rw h (fits x e (ltb-false _ _ h))
 
-    by-reading : (reading : Reading Instance) → readTicket text ≡ reading → RunCase text room (resultIn room reading)
+    by-reading : (reading : Answer Instance) → readTicket text ≡ reading → RunCase text room (andThen reading (resultIn room))
     by-reading (accepted x) e = by-room x e (ltb room (resultSize (x .processes))) refl
     by-reading (refused number line) e = unread number line e
 
@@ -49,7 +49,7 @@ unfolding resultSize
 result-small text x e = let formed = accepted-well-formed text x e in omega (arith, formed .at-most-64)
 
 module _ (text before after : List ℕ) (code : ℕ) (call : RunCall text before after code) where
-  by-case : (a : Reading (List ℕ)) → running text (length before) ≡ a → RunCase text (length before) a → RunAnswered text before after code
+  by-case : (a : Answer (List ℕ)) → running text (length before) ≡ a → RunCase text (length before) a → RunAnswered text before after code
   unfolding codeOf bufferAfter
   by-case (accepted r) e (fits x read room) =
       let size = length-text x (accepted-well-formed text x read) in

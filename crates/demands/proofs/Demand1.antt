@@ -19,10 +19,11 @@ use Rattle.answers.specs.Running.{resultIn, running, written, programWrites}
 use Rattle.text.proofs.LineReadBack.{line-read-back}
 use Rattle.ticket_format.proofs.RefusalRange.{RefusedBy, lastRefused, ticket-refused}
 use Rattle.demands.specs.OutputSays.{lineAt, refusalFrom, refusalSaid}
-use Rattle.ticket_format.specs.Reading.{Reading, accepted, refused}
+use Rattle.general.specs.Answer.{Answer, accepted, refused, andThen}
+use Rattle.coordinator.specs.Settling.{firstSettling}
 use Rattle.coordinator_laws.proofs.Counts.{counts-fit}
 use Rattle.coordinator_laws.proofs.FirstSettling.{first-settling}
-use Rattle.answers.specs.Settle.{settlingIn, settling}
+use Rattle.answers.specs.Settle.{settling}
 use Rattle.answers.specs.Code.{codeOf, numberCode}
 use Rattle.ticket_laws.proofs.WellFormed.{accepted-well-formed}
 use Rattle.ticket_laws.proofs.RefusedTexts.{wrong-refused, refused-wrong, refused-texts}
@@ -35,10 +36,10 @@ use Rattle.demands.specs.Demand1.{SettleAnswered, round, refusal, Ticket
 use Rattle.demands.proofs.Answered.{unread-numbered, run-answered}
 
 settle-answered : (text : List ℕ) (code : ℕ) → code ≡ numberCode (settling text) → SettleAnswered text code
-unfolding settling settlingIn codeOf
+unfolding settling codeOf
 settle-answered text code e = by-reading (readTicket text) refl e
   where
-    by-reading : (reading : Reading Instance) → readTicket text ≡ reading → code ≡ numberCode (settlingIn reading) → SettleAnswered text code
+    by-reading : (reading : Answer Instance) → readTicket text ≡ reading → code ≡ numberCode (andThen reading (λ x. accepted (firstSettling x))) → SettleAnswered text code
     by-reading (accepted x) read coded =
         let formed = accepted-well-formed text x read in
         round x (accepted-texts .exact text x read) coded (omega (arith, coded, first-settling x formed .within .1, counts-fit x formed .rounds))

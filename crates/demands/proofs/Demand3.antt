@@ -15,7 +15,7 @@ use Rattle.coordinator_laws.proofs.Ends.{ends-in-order}
 use Rattle.ticket_laws.proofs.WellFormed.{accepted-well-formed}
 use Rattle.demands.specs.OutputSays.{Counts, OutputSays, countsOf}
 use Rattle.demands.specs.Written.{Wrote}
-use Rattle.demands.specs.Demand3.{RoundsClaim, InstancesClaim, TicketsPaired, OutputClaim, Demand3}
+use Rattle.demands.specs.Demand3.{RoundsClaim, TextsPaired, TicketsPaired, OutputClaim, Demand3}
 use Rattle.demands.proofs.PairedTexts.{texts-paired}
 use Rattle.demands.proofs.PairedTickets.{tickets-paired}
 use Rattle.demands.proofs.Demand2.{demand-2}
@@ -30,7 +30,7 @@ rounds-claim =
           let formed = accepted-well-formed text x read in
           crashes-are-crashed x formed ∙ ap crashedCount (sym (ends-in-order x formed (endOf x) (λ p process. refl)));
       noLater = λ a b x y read read′ paired.
-          no-later x y (accepted-well-formed a x read) (accepted-well-formed b y read′) (texts-paired a b x y read read′ paired);
+          no-later x y (accepted-well-formed a x read) (accepted-well-formed b y read′) paired;
     }
 
 -- The bytes of a result say one thing: what the rounds give.
@@ -75,13 +75,12 @@ output-claim =
           (rounds-claim .noLater a b x y (wrote .read) (wrote′ .read) paired);
     }
 
-instances-claim : InstancesClaim
-unfolding InstancesClaim
-instances-claim a b x y pair = no-later x y (accepted-well-formed _ x (pair .first)) (accepted-well-formed _ y (pair .second)) (pair .paired)
+paired-texts : TextsPaired
+paired-texts = texts-paired
 
 paired-tickets : TicketsPaired
 unfolding TicketsPaired
 paired-tickets = tickets-paired
 
 pub demand-3 : Demand3
-demand-3 = record { rounds = rounds-claim; instances = instances-claim; tickets = paired-tickets; outputs = output-claim }
+demand-3 = record { rounds = rounds-claim; texts = paired-texts; tickets = paired-tickets; outputs = output-claim }

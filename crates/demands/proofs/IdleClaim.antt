@@ -6,14 +6,14 @@ use Rattle.consensus.specs.Instance.{Instance}
 use Rattle.coordinator.specs.WithoutIdle.{withoutIdle}
 use Rattle.coordinator_laws.proofs.IdleLines.{idle-lines-change-nothing}
 use Rattle.coordinator_laws.specs.IdleLines.{IdleLinesChangeNothing}
-use Rattle.ticket_format.specs.Reading.{accepted}
+use Rattle.general.specs.Answer.{accepted}
 use Rattle.ticket_format.specs.Ticket.{readTicket}
 use Rattle.ticket_laws.specs.TicketText.{ticketText}
 use Rattle.ticket_laws.proofs.WellFormed.{accepted-well-formed}
 use Rattle.ticket_laws.proofs.AcceptedTexts.{ticket-accepted}
 use Rattle.answers.specs.ResultLine.{resultText}
 use Rattle.answers.specs.Running.{resultIn, running}
-use Rattle.answers.specs.Settle.{settlingIn, settling}
+use Rattle.answers.specs.Settle.{settling}
 use Rattle.demands.specs.LettersClaim.{RunAlike, SettledAlike}
 use Rattle.demands.specs.IdleClaim.{IdleClaim}
 use Rattle.demands.proofs.LettersClaim.{ran-alike, settle-alike}
@@ -34,7 +34,7 @@ module _ (text : List ℕ) (x : Instance) (read : readTicket text ≡ accepted x
   same-running room = rw (read, left-out, same-result) refl
 
   same-settling : settling text ≡ settling (ticketText (withoutIdle x))
-  unfolding settling settlingIn
+  unfolding settling
   same-settling = rw (read, left-out, changes-nothing .settling) refl
 
   run-alike : RunAlike text (ticketText (withoutIdle x))

@@ -7,7 +7,7 @@ use lib.ListN.{length, take}
 use lib.Seq.{take-append-seam}
 use Rattle.consensus.specs.Instance.{Instance}
 use Rattle.text.specs.Capitals.{EqualUpToCase, InCapitals}
-use Rattle.ticket_format.specs.Reading.{Reading, accepted, refused}
+use Rattle.general.specs.Answer.{Answer, accepted, refused}
 use Rattle.ticket_format.specs.Ticket.{readTicket}
 use Rattle.answers.specs.ResultLine.{resultText, resultSize}
 use Rattle.answers.specs.Running.{running, bufferAfter, written, programWrites}
@@ -18,74 +18,28 @@ use Rattle.ticket_format.proofs.ReadCapitals.{read-capitals, read-alike}
 use Rattle.answers.proofs.InCapitals.{refusal-in-capitals}
 use Rattle.ticket_laws.proofs.WellFormed.{accepted-well-formed}
 use Rattle.answers.proofs.ResultLength.{length-text}
+use Rattle.answers.specs.Reply.{sizeOf, Writing}
+use Rattle.answers.proofs.Replies.{same-reply}
+use Rattle.answers.specs.declared.Reply.{Reply}
 use Rattle.ticket_format.proofs.RefusalRange.{RefusedBy, lastRefused, ticket-refused}
-use Rattle.running.specs.Answer.{answerOf, Writing}
-use Rattle.running.specs.declared.RunAnswer.{RunAnswer}
-use Rattle.reasons.specs.Answer.{reasonOfAnswer}
-use Rattle.reasons.specs.declared.ReasonAnswer.{ReasonAnswer}
-use Rattle.running.specs.Settling.{settlingOf}
-use Rattle.running.specs.declared.SettleAnswer.{SettleAnswer}
 use Rattle.pricing_format.specs.Quoting.{quoting}
 use Rattle.pricing_format.specs.QuoteCall.{placeAfter, quoteCode}
-use Rattle.quotes.specs.Answer.{quoteOfAnswer}
-use Rattle.quotes.specs.declared.QuoteAnswer.{QuoteAnswer}
 use Rattle.demands.specs.Written.{Wrote}
 use Rattle.demands.specs.Witnesses.{RunMet}
 use Rattle.demands.specs.LettersClaim.{RunAlike, SettledAlike, ExplainedAlike, QuotedAlike, LettersClaim}
 use Rattle.demands.proofs.Answered.{RunCase, fits, short, unread, run-case}
 use Rattle.demands.proofs.ResultInCapitals.{text-in-capitals}
 
--- Two answers are the same that are read alike, where an answer is known by what it is read as.
-known-alike : {A B : Type 0} (reads : A → B) (back : B → A) → ((a : A) → back (reads a) ≡ a) → (a b : A) → reads a ≡ reads b → a ≡ b
-known-alike reads back known a b e = sym (known a) ∙ ap back e ∙ known b
-
--- So it is with an answer of settling, one for a reason and one for a quote.
-settle-answer : Reading ℕ → SettleAnswer
-settle-answer (accepted r) = SettleAnswer.Round r
-settle-answer (refused number line) = SettleAnswer.Refused number line
-
-pub same-answer : (answer answer′ : SettleAnswer) → settlingOf answer ≡ settlingOf answer′ → answer ≡ answer′
-unfolding settlingOf settle-answer
-same-answer = known-alike settlingOf settle-answer known
-  where
-    known : (answer : SettleAnswer) → settle-answer (settlingOf answer) ≡ answer
-    known (SettleAnswer.Round r) = refl
-    known (SettleAnswer.Refused number line) = refl
-
-reason-answer : Reading ℕ → ReasonAnswer
-reason-answer (accepted k) = ReasonAnswer.Reason k
-reason-answer (refused number line) = ReasonAnswer.Refused number line
-
-pub same-reason : (answer answer′ : ReasonAnswer) → reasonOfAnswer answer ≡ reasonOfAnswer answer′ → answer ≡ answer′
-unfolding reasonOfAnswer reason-answer
-same-reason = known-alike reasonOfAnswer reason-answer known
-  where
-    known : (answer : ReasonAnswer) → reason-answer (reasonOfAnswer answer) ≡ answer
-    known (ReasonAnswer.Reason k) = refl
-    known (ReasonAnswer.Refused number line) = refl
-
-quote-answer : Reading ℕ → QuoteAnswer
-quote-answer (accepted pence) = QuoteAnswer.Quote pence
-quote-answer (refused number line) = QuoteAnswer.Refused number line
-
-same-quote : (answer answer′ : QuoteAnswer) → quoteOfAnswer answer ≡ quoteOfAnswer answer′ → answer ≡ answer′
-unfolding quoteOfAnswer quote-answer
-same-quote = known-alike quoteOfAnswer quote-answer known
-  where
-    known : (answer : QuoteAnswer) → quote-answer (quoteOfAnswer answer) ≡ answer
-    known (QuoteAnswer.Quote pence) = refl
-    known (QuoteAnswer.Refused number line) = refl
-
 -- What is made of two things that are the same.
 made-alike : {A B : Type 0} (made : B → A) (s t : B) → s ≡ t → (u v : A) → u ≡ made s → v ≡ made t → u ≡ v
 made-alike made s t same u v e g = e ∙ ap made same ∙ sym g
 
 -- Two calls that write, of which both answer the same for every room.
-module _ (answers answers′ : (room : ℕ) → Reading (List ℕ)) (same : (room : ℕ) → answers room ≡ answers′ room) (before out out′ : List ℕ) where
-  written-alike : (answer answer′ : RunAnswer) → Writing answers before out answer → Writing answers′ before out′ answer′ → (answer ≡ answer′) × (out ≡ out′)
+module _ (answers answers′ : (room : ℕ) → Answer (List ℕ)) (same : (room : ℕ) → answers room ≡ answers′ room) (before out out′ : List ℕ) where
+  written-alike : (answer answer′ : Reply) → Writing answers before out answer → Writing answers′ before out′ answer′ → (answer ≡ answer′) × (out ≡ out′)
   written-alike answer answer′ r s =
       let alike = same (length before) in
-      (made-alike answerOf _ _ alike _ _ (r .answered) (s .answered), made-alike (λ m. bufferAfter m before) _ _ alike _ _ (r .buffer) (s .buffer))
+      (same-reply answer answer′ (made-alike sizeOf _ _ alike _ _ (r .answered) (s .answered)), made-alike (λ m. bufferAfter m before) _ _ alike _ _ (r .buffer) (s .buffer))
 
   called-alike : (code code′ : ℕ) → WritingCall answers before out code → WritingCall answers′ before out′ code′ → (code ≡ code′) × (out ≡ out′)
   called-alike code code′ r s =
@@ -105,7 +59,7 @@ ran-alike a b same =
 pub settle-alike : (a b : List ℕ) → settling a ≡ settling b → SettledAlike a b
 settle-alike a b same =
     record {
-      settled = λ answer answer′ e g. same-answer answer answer′ (e ∙ same ∙ sym g);
+      settled = λ answer answer′ e g. same-reply answer answer′ (e ∙ same ∙ sym g);
       called = λ code code′ e g. e ∙ ap numberCode same ∙ sym g;
     }
 
@@ -158,7 +112,7 @@ module _ (a b : List ℕ) (same : EqualUpToCase a b) where
   explained-alike : ExplainedAlike a b
   explained-alike =
       record {
-        given = λ p r answer answer′ e g. same-reason answer answer′ (e ∙ reason-alike p r ∙ sym g);
+        given = λ p r answer answer′ e g. same-reply answer answer′ (e ∙ reason-alike p r ∙ sym g);
         called = λ p r code code′ e g. e ∙ ap numberCode (reason-alike p r) ∙ sym g;
         allGiven = written-alike (reasons a) (reasons b) reasons-alike;
         allCalled = called-alike (reasons a) (reasons b) reasons-alike;
@@ -171,11 +125,11 @@ module _ (a b : List ℕ) (same : EqualUpToCase a b) where
   quoted-alike : QuotedAlike a b
   quoted-alike =
       record {
-        given = λ costs p answer answer′ e g. same-quote answer answer′ (e ∙ quoting-alike costs p ∙ sym g);
+        given = λ costs p answer answer′ e g. same-reply answer answer′ (e ∙ quoting-alike costs p ∙ sym g);
         called = λ costs p before after after′ code code′ r s.
-            let same-quotes = quoting-alike costs p in (
-              made-alike quoteCode _ _ same-quotes _ _ (r .answered) (s .answered),
-              made-alike (λ (m : Reading ℕ). placeAfter m before) _ _ same-quotes _ _ (r .place) (s .place),
+            let same-replys = quoting-alike costs p in (
+              made-alike quoteCode _ _ same-replys _ _ (r .answered) (s .answered),
+              made-alike (λ (m : Answer ℕ). placeAfter m before) _ _ same-replys _ _ (r .place) (s .place),
             );
       }
 
@@ -190,7 +144,7 @@ written-in-capitals : (text : List ℕ) → InCapitals (programWrites text)
 unfolding programWrites written
 written-in-capitals text = by-case (running text (resultSize 64)) (run-case text (resultSize 64))
   where
-    by-case : (a : Reading (List ℕ)) → RunCase text (resultSize 64) a → InCapitals (written a)
+    by-case : (a : Answer (List ℕ)) → RunCase text (resultSize 64) a → InCapitals (written a)
     by-case (accepted r) (fits x read room) = text-in-capitals text x read
     by-case (refused number line) (short x read room) = refusal-in-capitals 9 0 (omega arith)
     by-case (refused number line) (unread _ _ read) = refusal-in-capitals number line (refusal-byte text number line read)

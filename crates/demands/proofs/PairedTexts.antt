@@ -13,7 +13,8 @@ use Rattle.consensus.specs.Instance.{Instance, correct, faultOf}
 use Rattle.coordinator_laws.specs.Pairing.{same, moreCommits, missing, Paired}
 use Rattle.text.specs.Line.{Line, bytes, noLine}
 use Rattle.ticket_format.specs.LineVerdict.{next}
-use Rattle.ticket_format.specs.Reading.{Reading, accepted, refused, readFrom}
+use Rattle.general.specs.Answer.{Answer, accepted, refused}
+use Rattle.ticket_format.specs.Reading.{readFrom}
 use Rattle.ticket_format.specs.Says.{isKind, afterProposal, failureLine, lineSays}
 use Rattle.ticket_format.specs.Accept.{Stage, header, body, unproposed, withProposal, store, accept}
 use Rattle.ticket_format.specs.declared.Place.the-variants.{Proposals, Failures, Ended}
@@ -165,7 +166,7 @@ readings-paired s s′ k k′ x y (missingLine {b} kind step-2 rest) along e e�
     let (u, step, more) = proceeds (accept s b) k _ x e in
     readings-paired u s′ (suc k) k′ x y rest (missing-step s s′ b u (commit-line b kind step-2) along step) more e′
 
-not-too-long : (long : Bool) (reading : Reading Instance) (x : Instance) → cond long (refused 1 0) reading ≡ accepted x → reading ≡ accepted x
+not-too-long : (long : Bool) (reading : Answer Instance) (x : Instance) → cond long (refused 1 0) reading ≡ accepted x → reading ≡ accepted x
 not-too-long true reading x e = absurd (refused-accepted 1 0 x e)
 not-too-long false reading x e = e
 

@@ -5,7 +5,6 @@ use Rattle.part_host.proofs.Calls.{output-yielded}
 use Rattle.part_host.proofs.DecideAlike.{parts-decide-alike, none-refused}
 use Rattle.part_host.proofs.PartsConsensus.{parts-consensus, parts-no-later}
 use Rattle.demands.specs.PartsClaim.{PartsClaim}
-use Rattle.demands.proofs.PairedTexts.{texts-paired}
 
 pub parts-claim : PartsClaim
 parts-claim =
@@ -14,6 +13,6 @@ parts-claim =
       noneRefused = λ text x read. none-refused x (accepted-well-formed text x read);
       consensus = λ text x read. parts-consensus x (accepted-well-formed text x read);
       noLater = λ a b x y read read′ paired.
-          parts-no-later x y (accepted-well-formed a x read) (accepted-well-formed b y read′) (texts-paired a b x y read read′ paired);
+          parts-no-later x y (accepted-well-formed a x read) (accepted-well-formed b y read′) paired;
       outputYielded = output-yielded;
     }

@@ -11,7 +11,7 @@ use Rattle.general.specs.BigEndian.{number}
 use Rattle.general.proofs.Bytes.{drop-bytes}
 use Rattle.general.proofs.BigEndian.{number-below}
 use Rattle.consensus.specs.State.{decided}
-use Rattle.ticket_format.specs.Reading.{Reading, accepted, refused}
+use Rattle.general.specs.Answer.{Answer, accepted, refused}
 use Rattle.pricing.specs.Price.{priceOf}
 use Rattle.pricing.specs.Quote.{linesRefusal, quoteBy}
 use Rattle.pricing.specs.PricedLines.{Priced, Unpriced}
@@ -27,11 +27,11 @@ use Rattle.pricing_format.specs.Quoting.{quotedOr16, ofLines}
 use Rattle.pricing_format.specs.OwnQuote.{ownQuote}
 use Rattle.pricing_format.specs.QuoteCall.{placeAfter, refusalNumber, PriceCall}
 use Rattle.pricing_format.proofs.QuotesApart.{quotes-apart}
-use Rattle.quotes.proofs.Answers.{priceIf, quote-by-state}
+use Rattle.pricing_format.proofs.ByState.{priceIf, quote-by-state}
 use Rattle.demands.specs.QuoteClaim.{PriceAnswered}
 
 -- The answers for nine bytes.
-data PriceCase (state costs : List ℕ) : Reading ℕ → Type 0 where
+data PriceCase (state costs : List ℕ) : Answer ℕ → Type 0 where
   price : (stateRefusal state ≡ 10 → ⊥) → Priced costs → stateFrom state .mark ≡ markDecided → PriceCase state costs (accepted (priceOf (stateFrom state .value) costs))
   waits : (stateRefusal state ≡ 10 → ⊥) → Priced costs → (stateFrom state .mark ≡ markDecided → ⊥) → PriceCase state costs (refused 16 0)
   wrongLines : (number : ℕ) → (stateRefusal state ≡ 10 → ⊥) → Unpriced costs number → PriceCase state costs (refused number 0)
@@ -64,13 +64,13 @@ module _ (state costs : List ℕ) where
   unfolding refusalNumber placeAfter stateFrom markOf valueOf
   price-answered before after code call = by-case (ownQuote state costs) price-case (call .answered) (call .place)
     where
-      by-case : (a : Reading ℕ) → PriceCase state costs a → code ≡ refusalNumber a → after ≡ placeAfter a before → PriceAnswered state costs before after code
+      by-case : (a : Answer ℕ) → PriceCase state costs a → code ≡ refusalNumber a → after ≡ placeAfter a before → PriceAnswered state costs before after code
       by-case _ (price valid lines marked) e f = PriceAnswered.quoted (valid-state state valid) lines marked e f
       by-case _ (waits valid lines other) e f = PriceAnswered.notDecided (valid-state state valid) lines other e f
       by-case _ (wrongLines number valid wrong) e f = PriceAnswered.lines number (valid-state state valid) wrong e f
       by-case _ (wrongState wrong) e f = PriceAnswered.noState (no-state state wrong) e f
 
-pub not-accepted : (number line pence : ℕ) → _≡_ {A = Reading ℕ} (refused number line) (accepted pence) → ⊥
+pub not-accepted : (number line pence : ℕ) → _≡_ {A = Answer ℕ} (refused number line) (accepted pence) → ⊥
 not-accepted number line pence e = let z : _≡_ {A = ℕ} 0 1 = cc in let w : ⊥ = omega arith in w
 
 -- What a quote from nine bytes rests on.
@@ -83,7 +83,7 @@ pub own-decision : (state costs : List ℕ) (pence : ℕ) → ownQuote state cos
 unfolding stateByPart
 own-decision state costs pence e = by-case (ownQuote state costs) (price-case state costs) e
   where
-    by-case : (a : Reading ℕ) → PriceCase state costs a → a ≡ accepted pence → OwnDecision state costs pence
+    by-case : (a : Answer ℕ) → PriceCase state costs a → a ≡ accepted pence → OwnDecision state costs pence
     by-case _ (price valid lines marked) e =
         record { lines = lines; says = rw (eq-eqb (stateFrom state .mark) markDecided marked) refl; price = cc }
     by-case _ (waits valid lines other) e = absurd (not-accepted _ _ _ e)

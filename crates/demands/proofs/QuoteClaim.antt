@@ -16,9 +16,10 @@ use Rattle.coordinator.specs.WellFormed.{WellFormed}
 use Rattle.consensus.proofs.SameEnds.{SameEnds}
 use Rattle.coordinator_laws.proofs.Consensus.{uniform-consensus}
 use Rattle.coordinator_laws.proofs.Settled.{none-ends-undecided}
-use Rattle.ticket_format.specs.Reading.{Reading, accepted, refused}
+use Rattle.general.specs.Answer.{Answer, accepted, refused, andThen}
 use Rattle.ticket_format.specs.Ticket.{readTicket}
 use Rattle.answers.specs.Code.{codeOf}
+use Rattle.answers.specs.Reply.{answerBy}
 use Rattle.ticket_laws.proofs.WellFormed.{accepted-well-formed}
 use Rattle.ticket_laws.proofs.RefusedTexts.{refused-wrong}
 use Rattle.pricing.specs.Price.{priceOf}
@@ -40,13 +41,12 @@ use Rattle.pricing_format.specs.Quoting.{quotedOr16, ofLines, quoteIn, quoting}
 use Rattle.pricing_format.specs.OwnQuote.{ownQuote}
 use Rattle.pricing_format.specs.QuoteCall.{placeAfter, quoteCode, QuoteCall}
 use Rattle.pricing_format.proofs.QuotesApart.{quotes-apart}
-use Rattle.quotes.specs.Answer.{quoteOfAnswer}
 use Rattle.demands.specs.QuoteClaim.{QuoteAnswered, noProcess, QuoteClaim}
 use Rattle.demands.proofs.PriceAnswered.{price-answered, not-accepted, own-decision, price-quoted, price-most}
 use Rattle.demands.proofs.Demand3.{demand-3, ends-said}
 
 -- The answers.
-pub data QuoteCase (text costs : List ℕ) (p : ℕ) : Reading ℕ → Type 0 where
+pub data QuoteCase (text costs : List ℕ) (p : ℕ) : Answer ℕ → Type 0 where
   quote : (x : Instance) (r v : ℕ) → readTicket text ≡ accepted x → Priced costs → Decides x (endOf x) p r v → QuoteCase text costs p (accepted (priceOf v costs))
   absent : (x : Instance) → readTicket text ≡ accepted x → Priced costs → (IsProcess x p → ⊥) → QuoteCase text costs p (refused 16 0)
   dark : (x : Instance) (r : ℕ) → readTicket text ≡ accepted x → Priced costs → CrashesUndecided x (endOf x) p r → QuoteCase text costs p (refused 16 0)
@@ -78,7 +78,7 @@ module _ (text costs : List ℕ) (p : ℕ) where
   unfolding quoting quoteIn ofLines
   quote-case = by-reading (readTicket text) refl
     where
-      by-reading : (reading : Reading Instance) → readTicket text ≡ reading → QuoteCase text costs p (quoteIn costs p reading)
+      by-reading : (reading : Answer Instance) → readTicket text ≡ reading → QuoteCase text costs p (andThen reading (quoteIn costs p))
       by-reading (accepted x) e = by-lines x e (eqb (linesRefusal costs) 0) refl
       by-reading (refused number line) e = unread number line e
 
@@ -86,7 +86,7 @@ module _ (text costs : List ℕ) (p : ℕ) where
   unfolding codeOf placeAfter
   quote-answered before after code call = by-case (quoting text costs p) quote-case (call .answered) (call .place)
     where
-      by-case : (a : Reading ℕ) → QuoteCase text costs p a → code ≡ quoteCode a → after ≡ placeAfter a before → QuoteAnswered text costs p before after code
+      by-case : (a : Answer ℕ) → QuoteCase text costs p a → code ≡ quoteCode a → after ≡ placeAfter a before → QuoteAnswered text costs p before after code
       by-case _ (quote x r v read lines decides) e f = QuoteAnswered.quoted x r v read lines decides e f
       by-case _ (absent x read lines outside) e f = noProcess x read lines outside e f
       by-case _ (dark x r read lines crash) e f = QuoteAnswered.crashes x r read lines crash e f
@@ -106,7 +106,7 @@ record Decision (text costs : List ℕ) (p pence : ℕ) : Type 0 where
 decision : (text costs : List ℕ) (p pence : ℕ) → quoting text costs p ≡ accepted pence → Decision text costs p pence
 decision text costs p pence e = by-case (quoting text costs p) (quote-case text costs p) e
   where
-    by-case : (a : Reading ℕ) → QuoteCase text costs p a → a ≡ accepted pence → Decision text costs p pence
+    by-case : (a : Answer ℕ) → QuoteCase text costs p a → a ≡ accepted pence → Decision text costs p pence
     by-case _ (quote x r v read lines decides) e =
         record { instance = x; round = r; value = v; read = read; lines = lines; decides = decides; price = cc }
     by-case _ (absent x read lines outside) e = absurd (not-accepted _ _ _ e)
@@ -114,7 +114,7 @@ decision text costs p pence e = by-case (quoting text costs p) (quote-case text 
     by-case _ (unpriced x number read wrong) e = absurd (not-accepted _ _ _ e)
     by-case _ (unread number line read) e = absurd (not-accepted _ _ _ e)
 
-accepted-same : {x y : Instance} → _≡_ {A = Reading Instance} (accepted x) (accepted y) → x ≡ y
+accepted-same : {x y : Instance} → _≡_ {A = Answer Instance} (accepted x) (accepted y) → x ≡ y
 accepted-same e = cc
 
 -- A text that is accepted, and a quote for it.
@@ -161,7 +161,7 @@ module _ (text costs : List ℕ) (p q a b : ℕ) (first : quoting text costs p �
   unfolding quoting quoteIn
   same-penny = by-reading (readTicket text) refl
     where
-      by-reading : (reading : Reading Instance) → readTicket text ≡ reading → a ≡ b
+      by-reading : (reading : Answer Instance) → readTicket text ≡ reading → a ≡ b
       by-reading (accepted x) read = rounds text x read .samePenny costs p q a b (quotes text x read costs p a first) (quotes text x read costs q b second)
       by-reading (refused number line) read =
           absurd (not-accepted number line a (rw read at first))
@@ -202,7 +202,7 @@ quote-most text costs p pence e =
     omega (arith, known .price, largest .quote (known .value) costs rates (priced-lines .taken costs (known .lines)))
 
 pub quote-claim : QuoteClaim
-unfolding quoteOfAnswer QuotesOfConsensus SameEnds
+unfolding answerBy QuotesOfConsensus SameEnds
 quote-claim =
     record {
       answered = quote-answered;

@@ -15,21 +15,20 @@ use Rattle.coordinator.specs.Reason.{reasonOf, reasonsOf}
 use Rattle.coordinator_laws.specs.TrueReasons.{IsRound}
 use Rattle.coordinator_laws.proofs.TrueReasons.{reason-within, reasons-true}
 use Rattle.coordinator_laws.proofs.ReasonsByEnds.{reasons-by-ends}
-use Rattle.ticket_format.specs.Reading.{Reading, accepted, refused}
+use Rattle.general.specs.Answer.{Answer, accepted, refused, andThen}
 use Rattle.ticket_format.specs.Ticket.{readTicket}
 use Rattle.answers.specs.Running.{bufferAfter}
 use Rattle.answers.specs.Reason.{withinRun, reasonIn, reason, reasonsSize, reasonsWithin, reasons}
 use Rattle.answers.specs.Code.{codeOf, refusalsFrom, sizeCode, numberCode, ReasonsCall}
 use Rattle.ticket_laws.proofs.WellFormed.{accepted-well-formed}
 use Rattle.answers.proofs.ReasonsLength.{length-reasons, reasons-fit, reason-at, reason-inside}
+use Rattle.answers.specs.Reply.{answerBy, sizeOf, Explained}
+use Rattle.answers.specs.declared.Reply.{Reply}
+use Rattle.answers.specs.declared.Reply.the-variants.{Given}
 use Rattle.ticket_laws.proofs.RefusedTexts.{refused-wrong}
-use Rattle.running.specs.Answer.{answerOf}
-use Rattle.running.specs.declared.RunAnswer.the-variants.{Written}
-use Rattle.reasons.specs.Answer.{reasonOfAnswer, Explained}
-use Rattle.reasons.specs.declared.ReasonAnswer.{ReasonAnswer}
 use Rattle.demands.specs.ReasonClaim.{OnlyReason, ReasonAnswered, known, outside, ReasonsAnswered, placeOf, AllReasons, ReasonClaim}
 use Rattle.demands.proofs.Answered.{unread-numbered}
-use Rattle.demands.proofs.LettersClaim.{same-reason}
+use Rattle.answers.proofs.Replies.{same-reply}
 
 -- The test of the definition and the two premises of the claims.
 module _ (x : Instance) (p r : ℕ) where
@@ -47,12 +46,12 @@ module _ (x : Instance) (p r : ℕ) where
       rw (le-leb 1 p (process .first), le-leb p _ (process .last), le-leb 1 r (round .first), le-leb r _ (round .last))
 
 -- The three answers for one process in one round, and those for all.
-data ReasonCase (text : List ℕ) (p r : ℕ) : Reading ℕ → Type 0 where
+data ReasonCase (text : List ℕ) (p r : ℕ) : Answer ℕ → Type 0 where
   inside : (x : Instance) → readTicket text ≡ accepted x → IsProcess x p → IsRound x r → ReasonCase text p r (accepted (reasonOf x p r))
   beyond : (x : Instance) → readTicket text ≡ accepted x → (IsProcess x p → IsRound x r → ⊥) → ReasonCase text p r (refused 13 0)
   unread : (number line : ℕ) → readTicket text ≡ refused number line → ReasonCase text p r (refused number line)
 
-data ReasonsCase (text : List ℕ) (room : ℕ) : Reading (List ℕ) → Type 0 where
+data ReasonsCase (text : List ℕ) (room : ℕ) : Answer (List ℕ) → Type 0 where
   fits : (x : Instance) → readTicket text ≡ accepted x → reasonsSize x ≤ room → ReasonsCase text room (accepted (reasonsOf x))
   short : (x : Instance) → readTicket text ≡ accepted x → room < reasonsSize x → ReasonsCase text room (refused 9 0)
   unread : (number line : ℕ) → readTicket text ≡ refused number line → ReasonsCase text room (refused number line)
@@ -62,11 +61,11 @@ module _ (text : List ℕ) where
   unfolding reason reasonIn
   reason-case p r = by-reading (readTicket text) refl
     where
-      by-test : (x : Instance) → readTicket text ≡ accepted x → (b : Bool) → withinRun x p r ≡ b → ReasonCase text p r (reasonIn p r (accepted x))
+      by-test : (x : Instance) → readTicket text ≡ accepted x → (b : Bool) → withinRun x p r ≡ b → ReasonCase text p r (reasonIn p r x)
       by-test x e true h = let (process, round) = within-so x p r h in rw h (inside x e process round)
       by-test x e false h = rw h (beyond x e (λ process round. true≢false (sym (so-within x p r process round) ∙ h)))
 
-      by-reading : (reading : Reading Instance) → readTicket text ≡ reading → ReasonCase text p r (reasonIn p r reading)
+      by-reading : (reading : Answer Instance) → readTicket text ≡ reading → ReasonCase text p r (andThen reading (reasonIn p r))
       by-reading (accepted x) e = by-test x e (withinRun x p r) refl
       by-reading (refused number line) e = ReasonCase.unread number line e
 
@@ -75,11 +74,11 @@ module _ (text : List ℕ) where
   reasons-case room = by-reading (readTicket text) refl
     where
       by-room : (x : Instance) → readTicket text ≡ accepted x → (b : Bool) → ltb room (reasonsSize x) ≡ b
-          → ReasonsCase text room (reasonsWithin room (accepted x))
+          → ReasonsCase text room (reasonsWithin room x)
       by-room x e true h = rw h (short x e (ltb-true _ _ h))
       by-room x e false h = rw h (fits x e (ltb-false _ _ h))
 
-      by-reading : (reading : Reading Instance) → readTicket text ≡ reading → ReasonsCase text room (reasonsWithin room reading)
+      by-reading : (reading : Answer Instance) → readTicket text ≡ reading → ReasonsCase text room (andThen reading (reasonsWithin room))
       by-reading (accepted x) e = by-room x e (ltb room (reasonsSize x)) refl
       by-reading (refused number line) e = ReasonsCase.unread number line e
 
@@ -88,7 +87,7 @@ module _ (text : List ℕ) where
   unfolding codeOf
   reason-answered p r code coded = by-case (reason text p r) (reason-case p r) coded
     where
-      by-case : (a : Reading ℕ) → ReasonCase text p r a → code ≡ numberCode a → ReasonAnswered text p r code
+      by-case : (a : Answer ℕ) → ReasonCase text p r a → code ≡ numberCode a → ReasonAnswered text p r code
       by-case _ (inside x read process round) e = known x read process round e (omega (arith, e, reason-within x p r .1))
       by-case _ (beyond x read none) e = outside x read none e
       by-case _ (unread number line read) e =
@@ -98,7 +97,7 @@ module _ (text : List ℕ) where
   unfolding codeOf bufferAfter
   reasons-answered before after code call = by-case (reasons text (length before)) (reasons-case (length before)) (call .answered) (call .buffer)
     where
-      by-case : (a : Reading (List ℕ)) → ReasonsCase text (length before) a → code ≡ sizeCode a → after ≡ bufferAfter a before
+      by-case : (a : Answer (List ℕ)) → ReasonsCase text (length before) a → code ≡ sizeCode a → after ≡ bufferAfter a before
           → ReasonsAnswered text before after code
       by-case _ (fits x read room) e b =
           let size = length-reasons x in
@@ -119,12 +118,12 @@ module _ (text : List ℕ) (x : Instance) (read : readTicket text ≡ accepted x
   unfolding reason reasonIn
   reason-accepted p r process round = rw (read, so-within x p r process round) refl
 
-  reason-given : (p r : ℕ) (answer : ReasonAnswer) → IsProcess x p → IsRound x r → reasonOfAnswer answer ≡ reason text p r
-      → (k : ℕ) × (answer ≡ ReasonAnswer.Reason k) × OnlyReason x p r k
-  unfolding reasonOfAnswer
+  reason-given : (p r : ℕ) (answer : Reply) → IsProcess x p → IsRound x r → answerBy answer ≡ reason text p r
+      → (k : ℕ) × (answer ≡ Given k) × OnlyReason x p r k
+  unfolding answerBy
   reason-given p r answer process round e =
       let k = reasonOf x p r in
-      (k, same-reason answer (ReasonAnswer.Reason k) (e ∙ reason-accepted p r process round), only-reason p r process round)
+      (k, same-reply answer (Given k) (e ∙ reason-accepted p r process round), only-reason p r process round)
 
   reason-called : (p r code : ℕ) → IsProcess x p → IsRound x r → code ≡ numberCode (reason text p r) → OnlyReason x p r code
   unfolding codeOf
@@ -140,7 +139,7 @@ module _ (text : List ℕ) (x : Instance) (read : readTicket text ≡ accepted x
       (only-reason p r process round)
 
 -- A text is accepted with one instance.
-same-instance : (x y : Instance) → _≡_ {A = Reading Instance} (accepted x) (accepted y) → x ≡ y
+same-instance : (x y : Instance) → _≡_ {A = Answer Instance} (accepted x) (accepted y) → x ≡ y
 same-instance x y e = cc
 
 -- A call that answers how many bytes it has written has written all reasons.
@@ -153,11 +152,11 @@ module _ (text before after : List ℕ) where
       by-answer (ReasonsAnswered.tooShort x read room coded stays) = absurd (omega (arith, coded))
       by-answer (ReasonsAnswered.refusal number line wrong coded large stays) = absurd (omega (arith, large))
 
-  all-by-answer : (size : ℕ) → Explained text before after (Written size) → (x : Instance) × (readTicket text ≡ accepted x) × AllReasons x after
-  unfolding answerOf bufferAfter
+  all-by-answer : (size : ℕ) → Explained text before after (Given size) → (x : Instance) × (readTicket text ≡ accepted x) × AllReasons x after
+  unfolding answerBy bufferAfter
   all-by-answer size call = by-case (reasons text (length before)) (reasons-case text (length before)) (call .answered) (call .buffer)
     where
-      by-case : (a : Reading (List ℕ)) → ReasonsCase text (length before) a → Written size ≡ answerOf a → after ≡ bufferAfter a before
+      by-case : (a : Answer (List ℕ)) → ReasonsCase text (length before) a → accepted size ≡ sizeOf a → after ≡ bufferAfter a before
           → (x : Instance) × (readTicket text ≡ accepted x) × AllReasons x after
       by-case _ (fits x read room) e b = (x, read, all-only text x read after _ b)
       by-case _ (short x read room) e b = absurd (let z : _≡_ {A = ℕ} 0 1 = cc in let w : ⊥ = omega arith in w)

@@ -9,7 +9,7 @@ use Rattle.consensus.specs.Instance.{Instance}
 use Rattle.consensus.specs.State.{State, crashed}
 use Rattle.coordinator.specs.Run.{Run, runOf, crashesOf}
 use Rattle.text.specs.Capitals.{InCapitals}
-use Rattle.ticket_format.specs.Reading.{accepted}
+use Rattle.general.specs.Answer.{accepted}
 use Rattle.ticket_format.specs.Ticket.{readTicket}
 use Rattle.answers.specs.ResultLine.{processLine, lastLine, joined, lineBy, processLines, resultLines, resultText}
 use Rattle.answers.proofs.InCapitals.{capitals-append, line-in-capitals}

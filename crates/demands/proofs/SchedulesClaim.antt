@@ -4,7 +4,7 @@ use mathlib.Core.Path.{_≡_, ap, _∙_}
 use Prim.Native.Nat.{ℕ}
 use Rattle.consensus.specs.Instance.{Instance}
 use Rattle.consensus.specs.Consensus.{IsProcess}
-use Rattle.ticket_format.specs.Reading.{accepted}
+use Rattle.general.specs.Answer.{accepted}
 use Rattle.ticket_format.specs.Ticket.{readTicket}
 use Rattle.ticket_laws.proofs.WellFormed.{accepted-well-formed}
 use Rattle.part_host.specs.Part.{partOf}
@@ -20,7 +20,6 @@ use Rattle.part_schedules.proofs.AnyOrder.{any-order, orders-no-later}
 use Rattle.part_schedules.proofs.Permutations.{permutations}
 use Rattle.part_schedules.proofs.Tenders.{tenders-apart}
 use Rattle.demands.specs.SchedulesClaim.{SchedulesClaim}
-use Rattle.demands.proofs.PairedTexts.{texts-paired}
 
 mixed-by-run : (text : List ℕ) (xs : ℕ → Instance) (steps : List TenderStep) (i : ℕ) (s : Schedule) → readTicket text ≡ accepted (xs i)
     → Whole (xs i) s → ofTender i steps ≡ scheduleSteps s → (p : ℕ) → IsProcess (xs i) p
@@ -38,7 +37,7 @@ schedules-claim =
       permutations = λ text x read. permutations x (accepted-well-formed text x read);
       endedCalls = ended-calls;
       noLater = λ a b x y read read′ paired.
-          orders-no-later x y (accepted-well-formed a x read) (accepted-well-formed b y read′) (texts-paired a b x y read read′ paired);
+          orders-no-later x y (accepted-well-formed a x read) (accepted-well-formed b y read′) paired;
       mixed = mixed-by-run;
       mixedAnswers = λ text xs steps i s read ordered own.
           tenders-apart .answeredAsAlone xs steps (λ j. unstarted (xs j)) i ∙ ap (allAnswers (xs i) (unstarted (xs i))) own

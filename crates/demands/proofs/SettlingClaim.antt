@@ -9,28 +9,28 @@ use Rattle.consensus.specs.Instance.{Instance}
 use Rattle.coordinator.specs.Settling.{firstSettling}
 use Rattle.coordinator_laws.specs.FirstSettling.{FirstSettles, SettledSince}
 use Rattle.coordinator_laws.proofs.FirstSettling.{first-settling, settled-since}
-use Rattle.ticket_format.specs.Reading.{accepted}
+use Rattle.general.specs.Answer.{accepted}
 use Rattle.ticket_format.specs.Ticket.{readTicket}
-use Rattle.answers.specs.Settle.{settlingIn, settling}
+use Rattle.answers.specs.Settle.{settling}
 use Rattle.answers.specs.Code.{codeOf, numberCode}
+use Rattle.answers.specs.Reply.{answerBy}
+use Rattle.answers.specs.declared.Reply.{Reply}
+use Rattle.answers.specs.declared.Reply.the-variants.{Given}
 use Rattle.ticket_laws.proofs.WellFormed.{accepted-well-formed}
-use Rattle.running.specs.Settling.{settlingOf}
-use Rattle.running.specs.declared.SettleAnswer.{SettleAnswer}
-use Rattle.running.specs.declared.SettleAnswer.the-variants.{Round}
 use Rattle.demands.specs.SettlingClaim.{SettlingClaim}
-use Rattle.demands.proofs.LettersClaim.{same-answer}
+use Rattle.answers.proofs.Replies.{same-reply}
 
 module _ (text : List ℕ) (x : Instance) (read : readTicket text ≡ accepted x) where
   first : FirstSettles x (firstSettling x) × SettledSince x (firstSettling x)
   first = let formed = accepted-well-formed text x read in (first-settling x formed, settled-since x formed)
 
   settling-accepted : settling text ≡ accepted (firstSettling x)
-  unfolding settling settlingIn
+  unfolding settling
   settling-accepted = rw read refl
 
-  named : (answer : SettleAnswer) → settlingOf answer ≡ settling text → (r : ℕ) × (answer ≡ Round r) × FirstSettles x r × SettledSince x r
-  unfolding settlingOf
-  named answer e = (firstSettling x, same-answer answer (Round (firstSettling x)) (e ∙ settling-accepted), first .0, first .1)
+  named : (answer : Reply) → answerBy answer ≡ settling text → (r : ℕ) × (answer ≡ Given r) × FirstSettles x r × SettledSince x r
+  unfolding answerBy
+  named answer e = (firstSettling x, same-reply answer (Given (firstSettling x)) (e ∙ settling-accepted), first .0, first .1)
 
   called : (code : ℕ) → code ≡ numberCode (settling text) → FirstSettles x code × SettledSince x code
   unfolding codeOf

@@ -16,7 +16,7 @@ use Rattle.demands.specs.Used.{FullestMet, lastState, dataOfRound1, Used
 use Rattle.consensus.specs.Consensus.{IsProcess}
 use Rattle.coordinator.specs.Run.{endOf}
 use Rattle.text.specs.Line.{Line, linesOf}
-use Rattle.ticket_format.specs.Reading.{Reading, accepted, refused}
+use Rattle.general.specs.Answer.{Answer, accepted, refused}
 use Rattle.ticket_format.specs.Ticket.{readTicket}
 use Rattle.ticket_format.specs.ReadingCases.{fullest, limitsOf}
 use Rattle.ticket_format.proofs.ReadingCases.{reading-cases}
@@ -42,7 +42,7 @@ use Rattle.demands.proofs.Witnesses.{witnesses}
 no-limits : _≡_ {A = List ℕ} [] (64 ∷ 63 ∷ []) → ⊥
 no-limits e = let z : _≡_ {A = ℕ} 0 64 = ap (λ (l : List ℕ). getD l 0 0) e in omega (arith, z)
 
-met-as : (reading : Reading Instance) → readTicket fullest ≡ reading → limitsOf reading ≡ 64 ∷ 63 ∷ [] → FullestMet
+met-as : (reading : Answer Instance) → readTicket fullest ≡ reading → limitsOf reading ≡ 64 ∷ 63 ∷ [] → FullestMet
 unfolding limitsOf
 met-as (accepted x) e limits =
     record {
@@ -101,7 +101,7 @@ module _ (f : FullestMet) where
         counted = demand-3 .rounds .crashes fullest (f .instance) (f .read);
         saidNoLater =
             demand-3 .outputs .noLater fullest fullest (f .instance) (f .instance) (programWrites fullest) (programWrites fullest) _ _ _ _ fullest-wrote
-            fullest-wrote fullest-says fullest-says fullest-paired;
+            fullest-wrote fullest-says fullest-says (demand-3 .texts fullest fullest (f .instance) (f .instance) (f .read) (f .read) fullest-paired);
         bounded = bound-claim .said fullest (f .instance) (programWrites fullest) _ fullest-wrote (fullest-says .last);
         reason = λ r round. reason-claim .called fullest (f .instance) 64 r _ (f .read) (process 64 (omega arith) (omega arith)) round refl;
         quotes = λ a b.
@@ -122,10 +122,10 @@ claims-used =
       ticket = demand-1 .accepts .exact crashText _ read;
       notWrong = λ refusal line. demand-1 .texts .notBoth crashText _ refusal line (demand-1 .accepts .exact crashText _ read);
       result = demand-2 .written .byCall crashText _ _ 101 (witnesses .written .called) (witnesses .written .small);
-      noLater = demand-3 .rounds .noLater _ _ _ _ (pair .instances .first) (pair .instances .second) (pair .lines);
-      partsNoLater = parts-claim .noLater _ _ _ _ (pair .instances .first) (pair .instances .second) (pair .lines);
+      noLater = demand-3 .rounds .noLater _ _ _ _ (pair .readFirst) (pair .readSecond) (pair .paired);
+      partsNoLater = parts-claim .noLater _ _ _ _ (pair .readFirst) (pair .readSecond) (demand-3 .texts _ _ _ _ (pair .readFirst) (pair .readSecond) (pair .lines));
       ordersNoLater =
-          schedules-claim .noLater _ _ _ _ (witnesses .playedOtherwise .read) (witnesses .playedPaired .read) (pair .lines) _ _
+          schedules-claim .noLater _ _ _ _ (witnesses .playedOtherwise .read) (witnesses .playedPaired .read) (demand-3 .texts _ _ _ _ (witnesses .playedOtherwise .read) (witnesses .playedPaired .read) (pair .lines)) _ _
           (witnesses .playedOtherwise .whole) (witnesses .playedPaired .whole);
       roundsCrashed = demand-3 .rounds .crashed crashText _ (witnesses .sent .wrote .read);
       crashed = demand-3 .outputs .crashed crashText _ _ _ _ (witnesses .sent .wrote) (demand-2 .result crashText _ _ (witnesses .sent .wrote));

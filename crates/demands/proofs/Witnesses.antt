@@ -36,21 +36,20 @@ use Rattle.text.specs.Line.{scan, closed, unclosed, linesFrom, linesOf}
 use Rattle.ticket_format.specs.FailureLine.{placesCrash, allBetween, suitsStep}
 use Rattle.ticket_format.specs.Says.{isKind, headerSays, afterProposal, proposalSays, failureLine, crashSays, failureSays, lineSays}
 use Rattle.ticket_format.specs.Accept.{unproposed, withProposal, withCrash, begin, store, accept}
-use Rattle.ticket_format.specs.Reading.{accepted, refused, proceed, readFrom}
+use Rattle.general.specs.Answer.{Answer, accepted, refused, andThen}
+use Rattle.ticket_format.specs.Reading.{proceed, readFrom}
 use Rattle.ticket_format.specs.Ticket.{atEnd, readTicket}
 use Rattle.text.specs.HexText.{digitOf, hexDigits, hexLine}
 use Rattle.answers.specs.ResultLine.{endBytes, processLine, lastLine, joined, lineBy, processLines, resultLines, resultText, resultSize}
 use Rattle.answers.specs.Running.{resultIn, running, bufferAfter}
-use Rattle.answers.specs.Settle.{settlingIn, settling}
+use Rattle.answers.specs.Settle.{settling}
 use Rattle.answers.specs.Reason.{withinRun, reasonIn, reason, reasonsSize, reasonsWithin, reasons}
 use Rattle.answers.specs.Code.{codeOf, refusalCode, RunCall}
 use Rattle.text.specs.TextOf.{textOf}
 use Rattle.ticket_format.specs.Openings.{opening}
 use Rattle.answers.specs.Table.{case1}
 use Rattle.answers.proofs.LetteringCases.{lettering-cases}
-use Rattle.running.specs.Answer.{answerOf}
-use Rattle.running.specs.Settling.{settlingOf}
-use Rattle.reasons.specs.Answer.{reasonOfAnswer}
+use Rattle.answers.specs.Reply.{answerBy}
 use Rattle.demands.specs.OutputSays.{isProcessLine, sentIn, sentFrom, lineAt, sentSaid, countsOf}
 use Rattle.demands.specs.Written.{Wrote}
 use Rattle.ticket_laws.specs.FirstWrong.{kindIn, stationIn, stepIn, countIn}
@@ -74,7 +73,6 @@ use Rattle.pricing.specs.Price.{overheadOf, markupOf, nearest, withRate, linePr
 use Rattle.pricing.specs.Quote.{anyAbove, linesRefusal, quoteBy}
 use Rattle.pricing_format.specs.Quoting.{quotedOr16, ofLines, quoteIn, quoting}
 use Rattle.pricing_format.specs.QuoteCall.{placeAfter, refusalNumber, QuoteCall}
-use Rattle.quotes.specs.Answer.{quoteOfAnswer}
 use Rattle.demands.proofs.QuoteClaim.{quote-claim}
 use Rattle.demands.proofs.SchedulesClaim.{schedules-claim}
 use Rattle.demands.specs.Witnesses.{crashText, mixedText, moreCommitsText, noCrashText, laterText, silentText, reachedText, PairMet, RunMet, SentMet, SettledMet, ReasonMet, CrashMet, ReasonsMet, QuoteMet, PricedMeanwhile, PlayedMet, sentAs, Witnesses}
@@ -134,7 +132,9 @@ more-commits =
       first = crash;
       second = allCommits;
       lines = paired-commits;
-      instances = record { first = texts-read .0; second = texts-read .1; paired = paired-with _ _ (moreCommits (omega arith)) };
+      readFirst = texts-read .0;
+      readSecond = texts-read .1;
+      paired = paired-with _ _ (moreCommits (omega arith));
       decides = second-decides .0;
       decidesSecond = second-decides .1;
     }
@@ -145,14 +145,16 @@ line-missing =
       first = crash;
       second = noCrash;
       lines = paired-missing;
-      instances = record { first = texts-read .0; second = texts-read .2; paired = paired-with _ _ missing };
+      readFirst = texts-read .0;
+      readSecond = texts-read .2;
+      paired = paired-with _ _ missing;
       decides = second-decides .0;
       decidesSecond = second-decides .2;
     }
 
 -- The buffer of 120 bytes holds the result and, behind it, what stood there.
 written : RunMet crashText 101
-unfolding answerOf codeOf running resultIn bufferAfter resultText resultLines joined lineBy processLines lastLine processLine endBytes resultSize hexLine hexDigits digitOf crashText moreCommitsText noCrashText opening textOf ascii member number numberFrom bytesOf mapFrom countFrom countOf addAt pointFrom faultOf withinLimits arriving getsData getsCommit sends receives amongFirst reachAt reachIn reach stateOf crashesIn sentBy received afterOutcome after statesAfter isUndecided anyUndecided speaks carries carriedIn dataIn commitsIn isIdle countsAsCrash crashCount initial withRound runTo runOf sentAfter dataBy commitsBy crashesOf digitValue isDigit scan closed unclosed linesFrom linesOf proceed readFrom isKind headerSays afterProposal proposalSays failureLine placesCrash allBetween suitsStep crashSays failureSays lineSays unproposed withProposal withCrash begin store accept atEnd readTicket
+unfolding answerBy codeOf running resultIn bufferAfter resultText resultLines joined lineBy processLines lastLine processLine endBytes resultSize hexLine hexDigits digitOf crashText moreCommitsText noCrashText opening textOf ascii member number numberFrom bytesOf mapFrom countFrom countOf addAt pointFrom faultOf withinLimits arriving getsData getsCommit sends receives amongFirst reachAt reachIn reach stateOf crashesIn sentBy received afterOutcome after statesAfter isUndecided anyUndecided speaks carries carriedIn dataIn commitsIn isIdle countsAsCrash crashCount initial withRound runTo runOf sentAfter dataBy commitsBy crashesOf digitValue isDigit scan closed unclosed linesFrom linesOf proceed readFrom isKind headerSays afterProposal proposalSays failureLine placesCrash allBetween suitsStep crashSays failureSays lineSays unproposed withProposal withCrash begin store accept atEnd readTicket
 written =
     record {
       before = replicate 120 165;
@@ -169,17 +171,17 @@ written-mixed = run-met-alike crashText mixedText (lettering-cases .acceptedText
 
 -- Its lines are those of case 1.
 crash-wrote : Wrote crashText crash (textOf (case1 .output))
-unfolding answerOf codeOf running resultIn bufferAfter resultText resultLines joined lineBy processLines lastLine processLine endBytes resultSize hexLine hexDigits digitOf crashText moreCommitsText noCrashText opening textOf ascii member number numberFrom bytesOf mapFrom countFrom countOf addAt pointFrom faultOf withinLimits arriving getsData getsCommit sends receives amongFirst reachAt reachIn reach stateOf crashesIn sentBy received afterOutcome after statesAfter isUndecided anyUndecided speaks carries carriedIn dataIn commitsIn isIdle countsAsCrash crashCount initial withRound runTo runOf sentAfter dataBy commitsBy crashesOf digitValue isDigit scan closed unclosed linesFrom linesOf proceed readFrom isKind headerSays afterProposal proposalSays failureLine placesCrash allBetween suitsStep crashSays failureSays lineSays unproposed withProposal withCrash begin store accept atEnd readTicket four
+unfolding answerBy codeOf running resultIn bufferAfter resultText resultLines joined lineBy processLines lastLine processLine endBytes resultSize hexLine hexDigits digitOf crashText moreCommitsText noCrashText opening textOf ascii member number numberFrom bytesOf mapFrom countFrom countOf addAt pointFrom faultOf withinLimits arriving getsData getsCommit sends receives amongFirst reachAt reachIn reach stateOf crashesIn sentBy received afterOutcome after statesAfter isUndecided anyUndecided speaks carries carriedIn dataIn commitsIn isIdle countsAsCrash crashCount initial withRound runTo runOf sentAfter dataBy commitsBy crashesOf digitValue isDigit scan closed unclosed linesFrom linesOf proceed readFrom isKind headerSays afterProposal proposalSays failureLine placesCrash allBetween suitsStep crashSays failureSays lineSays unproposed withProposal withCrash begin store accept atEnd readTicket four
 crash-wrote = record { read = texts-read .0; behind = []; front = refl }
 
 -- What its lines say of processes 1 to 5.
 sent-rows : map (sentSaid (textOf (case1 .output))) (1 ∷ 2 ∷ 3 ∷ 4 ∷ 5 ∷ []) ≡ sentAs 3 1 ∷ sentAs 1 1 ∷ sentAs 0 0 ∷ sentAs 0 0 ∷ none ∷ []
-unfolding answerOf codeOf running resultIn bufferAfter resultText resultLines joined lineBy processLines lastLine processLine endBytes resultSize hexLine hexDigits digitOf crashText moreCommitsText noCrashText opening textOf ascii member number numberFrom bytesOf mapFrom countFrom countOf addAt pointFrom faultOf withinLimits arriving getsData getsCommit sends receives amongFirst reachAt reachIn reach stateOf crashesIn sentBy received afterOutcome after statesAfter isUndecided anyUndecided speaks carries carriedIn dataIn commitsIn isIdle countsAsCrash crashCount initial withRound runTo runOf sentAfter dataBy commitsBy crashesOf digitValue isDigit scan closed unclosed linesFrom linesOf proceed readFrom isKind headerSays afterProposal proposalSays failureLine placesCrash allBetween suitsStep crashSays failureSays lineSays unproposed withProposal withCrash begin store accept atEnd readTicket four lineAt isProcessLine sentIn sentFrom sentSaid
+unfolding answerBy codeOf running resultIn bufferAfter resultText resultLines joined lineBy processLines lastLine processLine endBytes resultSize hexLine hexDigits digitOf crashText moreCommitsText noCrashText opening textOf ascii member number numberFrom bytesOf mapFrom countFrom countOf addAt pointFrom faultOf withinLimits arriving getsData getsCommit sends receives amongFirst reachAt reachIn reach stateOf crashesIn sentBy received afterOutcome after statesAfter isUndecided anyUndecided speaks carries carriedIn dataIn commitsIn isIdle countsAsCrash crashCount initial withRound runTo runOf sentAfter dataBy commitsBy crashesOf digitValue isDigit scan closed unclosed linesFrom linesOf proceed readFrom isKind headerSays afterProposal proposalSays failureLine placesCrash allBetween suitsStep crashSays failureSays lineSays unproposed withProposal withCrash begin store accept atEnd readTicket four lineAt isProcessLine sentIn sentFrom sentSaid
 sent-rows = refl
 
 sent : SentMet crashText (textOf (case1 .output)) (sentAs 3 1 ∷ sentAs 1 1 ∷ sentAs 0 0 ∷ sentAs 0 0 ∷ none ∷ [])
     (record { rounds = 2; crashes = 1; speakers = 2; dataSent = 4; commitsSent = 2 })
-unfolding answerOf codeOf running resultIn bufferAfter resultText resultLines joined lineBy processLines lastLine processLine endBytes resultSize hexLine hexDigits digitOf crashText moreCommitsText noCrashText opening textOf ascii member number numberFrom bytesOf mapFrom countFrom countOf addAt pointFrom faultOf withinLimits arriving getsData getsCommit sends receives amongFirst reachAt reachIn reach stateOf crashesIn sentBy received afterOutcome after statesAfter isUndecided anyUndecided speaks carries carriedIn dataIn commitsIn isIdle countsAsCrash crashCount initial withRound runTo runOf sentAfter dataBy commitsBy crashesOf digitValue isDigit scan closed unclosed linesFrom linesOf proceed readFrom isKind headerSays afterProposal proposalSays failureLine placesCrash allBetween suitsStep crashSays failureSays lineSays unproposed withProposal withCrash begin store accept atEnd readTicket four lineAt isProcessLine sentIn sentFrom sentSaid countsOf
+unfolding answerBy codeOf running resultIn bufferAfter resultText resultLines joined lineBy processLines lastLine processLine endBytes resultSize hexLine hexDigits digitOf crashText moreCommitsText noCrashText opening textOf ascii member number numberFrom bytesOf mapFrom countFrom countOf addAt pointFrom faultOf withinLimits arriving getsData getsCommit sends receives amongFirst reachAt reachIn reach stateOf crashesIn sentBy received afterOutcome after statesAfter isUndecided anyUndecided speaks carries carriedIn dataIn commitsIn isIdle countsAsCrash crashCount initial withRound runTo runOf sentAfter dataBy commitsBy crashesOf digitValue isDigit scan closed unclosed linesFrom linesOf proceed readFrom isKind headerSays afterProposal proposalSays failureLine placesCrash allBetween suitsStep crashSays failureSays lineSays unproposed withProposal withCrash begin store accept atEnd readTicket four lineAt isProcessLine sentIn sentFrom sentSaid countsOf
 sent =
     record {
       instance = crash;
@@ -196,7 +198,7 @@ crash-settles = (refl, refl)
 -- What is settled is so by both contracts.
 met : (text : List ℕ) (x : Instance) (code rounds p v : ℕ) → readTicket text ≡ accepted x → firstSettling x ≡ code → runOf x .rounds ≡ rounds
     → Decides x (endOf x) p rounds v → SettledMet text code rounds p v
-unfolding settling settlingIn settlingOf codeOf
+unfolding settling answerBy codeOf
 met text x code rounds p v read settles last decides =
     record { instance = x; read = read; answered = rw (read, settles) refl; called = rw (read, settles) refl; last = last; decides = decides }
 
@@ -229,7 +231,7 @@ silent-read = refl
 -- A reason that is given is so by both contracts.
 reason-met : (text : List ℕ) (x : Instance) (p r k ended : ℕ) → readTicket text ≡ accepted x → IsProcess x p → IsRound x r → StaysUp x p r
     → withinRun x p r ≡ true → reasonOf x p r ≡ k → r < endRound (endOf x p) → endRound (endOf x r) ≡ ended → ReasonMet text p r k ended
-unfolding reason reasonIn reasonOfAnswer codeOf
+unfolding reason reasonIn answerBy codeOf
 reason-met text x p r k ended read process round stays within known later coordinator =
     record {
       instance = x;
@@ -266,7 +268,7 @@ unfolding reasons reasonsWithin reasonsSize tabulate stateAtStart heardIn reason
 crash-reasons = rw (texts-read .0) refl
 
 all-explained : ReasonsMet crashText (replicate 9 165) (6 ∷ 3 ∷ 3 ∷ 2 ∷ 7 ∷ 1 ∷ 2 ∷ 7 ∷ 165 ∷ []) 8
-unfolding answerOf codeOf bufferAfter
+unfolding answerBy codeOf bufferAfter
 all-explained =
     record {
       answered = record { answered = rw crash-reasons refl; buffer = rw crash-reasons refl };
@@ -283,7 +285,7 @@ unfolding quoting quoteIn ofLines quotedOr16 linesRefusal anyAbove quoteBy overh
 crash-quotes = (rw (texts-read .0) refl, rw (texts-read .0) refl, rw (texts-read .0) refl)
 
 quote-met : (p : ℕ) → IsProcess crash p → quoting crashText oneLine p ≡ accepted 100100 → QuoteMet crashText oneLine p 100100
-unfolding quoteOfAnswer codeOf placeAfter refusalNumber
+unfolding answerBy codeOf placeAfter refusalNumber
 quote-met p process quoted =
     let own = quote-claim .own crashText crash oneLine p (texts-read .0) process ∙ quoted in
     record {
@@ -307,7 +309,7 @@ quoted-mixed : QuoteCall mixedText oneLine 2 7 100100 0
 unfolding codeOf placeAfter quoting crashText mixedText
 quoted-mixed =
     let alike = letters-claim .read crashText mixedText (lettering-cases .acceptedTexts .same) in
-    let same : quoting mixedText oneLine 2 ≡ accepted 100100 = ap (quoteIn oneLine 2) (sym alike) ∙ crash-quotes .0 in
+    let same : quoting mixedText oneLine 2 ≡ accepted 100100 = ap (λ (a : Answer Instance). andThen a (quoteIn oneLine 2)) (sym alike) ∙ crash-quotes .0 in
     record { answered = rw same refl; place = rw same refl }
 
 -- The nine bytes of processes 4 and 2 after round 1.
@@ -394,11 +396,11 @@ played-beside = played-named reachedText dataToTheLast case5Left reached-read re
 
 -- 100 bytes are one too few, and 101 just enough.
 short : RunCall crashText (replicate 100 165) (replicate 100 165) (refusalCode 9 0)
-unfolding answerOf codeOf running resultIn bufferAfter resultText resultLines joined lineBy processLines lastLine processLine endBytes resultSize hexLine hexDigits digitOf crashText moreCommitsText noCrashText opening textOf ascii member number numberFrom bytesOf mapFrom countFrom countOf addAt pointFrom faultOf withinLimits arriving getsData getsCommit sends receives amongFirst reachAt reachIn reach stateOf crashesIn sentBy received afterOutcome after statesAfter isUndecided anyUndecided speaks carries carriedIn dataIn commitsIn isIdle countsAsCrash crashCount initial withRound runTo runOf sentAfter dataBy commitsBy crashesOf digitValue isDigit scan closed unclosed linesFrom linesOf proceed readFrom isKind headerSays afterProposal proposalSays failureLine placesCrash allBetween suitsStep crashSays failureSays lineSays unproposed withProposal withCrash begin store accept atEnd readTicket
+unfolding answerBy codeOf running resultIn bufferAfter resultText resultLines joined lineBy processLines lastLine processLine endBytes resultSize hexLine hexDigits digitOf crashText moreCommitsText noCrashText opening textOf ascii member number numberFrom bytesOf mapFrom countFrom countOf addAt pointFrom faultOf withinLimits arriving getsData getsCommit sends receives amongFirst reachAt reachIn reach stateOf crashesIn sentBy received afterOutcome after statesAfter isUndecided anyUndecided speaks carries carriedIn dataIn commitsIn isIdle countsAsCrash crashCount initial withRound runTo runOf sentAfter dataBy commitsBy crashesOf digitValue isDigit scan closed unclosed linesFrom linesOf proceed readFrom isKind headerSays afterProposal proposalSays failureLine placesCrash allBetween suitsStep crashSays failureSays lineSays unproposed withProposal withCrash begin store accept atEnd readTicket
 short = record { answered = refl; buffer = refl }
 
 fits : RunCall crashText (replicate 101 165) (textOf (case1 .output)) 101
-unfolding answerOf codeOf running resultIn bufferAfter resultText resultLines joined lineBy processLines lastLine processLine endBytes resultSize hexLine hexDigits digitOf crashText moreCommitsText noCrashText opening textOf ascii member number numberFrom bytesOf mapFrom countFrom countOf addAt pointFrom faultOf withinLimits arriving getsData getsCommit sends receives amongFirst reachAt reachIn reach stateOf crashesIn sentBy received afterOutcome after statesAfter isUndecided anyUndecided speaks carries carriedIn dataIn commitsIn isIdle countsAsCrash crashCount initial withRound runTo runOf sentAfter dataBy commitsBy crashesOf digitValue isDigit scan closed unclosed linesFrom linesOf proceed readFrom isKind headerSays afterProposal proposalSays failureLine placesCrash allBetween suitsStep crashSays failureSays lineSays unproposed withProposal withCrash begin store accept atEnd readTicket
+unfolding answerBy codeOf running resultIn bufferAfter resultText resultLines joined lineBy processLines lastLine processLine endBytes resultSize hexLine hexDigits digitOf crashText moreCommitsText noCrashText opening textOf ascii member number numberFrom bytesOf mapFrom countFrom countOf addAt pointFrom faultOf withinLimits arriving getsData getsCommit sends receives amongFirst reachAt reachIn reach stateOf crashesIn sentBy received afterOutcome after statesAfter isUndecided anyUndecided speaks carries carriedIn dataIn commitsIn isIdle countsAsCrash crashCount initial withRound runTo runOf sentAfter dataBy commitsBy crashesOf digitValue isDigit scan closed unclosed linesFrom linesOf proceed readFrom isKind headerSays afterProposal proposalSays failureLine placesCrash allBetween suitsStep crashSays failureSays lineSays unproposed withProposal withCrash begin store accept atEnd readTicket
 fits = record { answered = refl; buffer = refl }
 
 pub witnesses : Witnesses

@@ -5,32 +5,32 @@ use Prim.Native.Nat.{ℕ, _≤_, _<_}
 use native.Mathlib.Omega.{arith}
 use lib.ListN.{length, drop}
 use Rattle.consensus.specs.Instance.{Instance}
-use Rattle.ticket_format.specs.Reading.{Reading, accepted, refused}
+use Rattle.general.specs.Answer.{Answer, accepted, refused}
 use Rattle.ticket_format.specs.Ticket.{readTicket}
 use Rattle.answers.specs.ResultLine.{resultText, resultSize}
 use Rattle.answers.specs.Running.{running, bufferAfter, written, programWrites}
 use Rattle.answers.specs.Code.{refusalsFrom}
+use Rattle.answers.specs.Reply.{answerBy, Ran}
+use Rattle.answers.specs.declared.Reply.the-variants.{Given}
 use Rattle.ticket_laws.proofs.AcceptedTexts.{accepted-texts}
 use Rattle.ticket_laws.proofs.WellFormed.{accepted-well-formed}
 use Rattle.ticket_format.proofs.Passing.{refused-accepted}
-use Rattle.running.specs.Answer.{answerOf, Ran}
-use Rattle.running.specs.declared.RunAnswer.the-variants.{Written, Refused}
 use Rattle.demands.specs.Demand1.{RunAnswered, result, refusal}
 use Rattle.demands.specs.Written.{Wrote, WritesResults}
 use Rattle.demands.proofs.Answered.{RunCase, fits, short, unread, run-case, run-answered}
 
 -- A refusal writes no result.
-written-not-refused : (size number line : ℕ) → Written size ≡ Refused number line → ⊥
-written-not-refused size number line e = let z : _≡_ {A = ℕ} 0 1 = cc in omega arith
+accepted-not-refused : (size number line : ℕ) → accepted size ≡ refused number line → ⊥
+accepted-not-refused size number line e = let z : _≡_ {A = ℕ} 0 1 = cc in omega arith
 
-ran-wrote : (text before out : List ℕ) (size : ℕ) → Ran text before out (Written size) → (x : Instance) × Wrote text x out
-unfolding answerOf bufferAfter
+ran-wrote : (text before out : List ℕ) (size : ℕ) → Ran text before out (Given size) → (x : Instance) × Wrote text x out
+unfolding answerBy bufferAfter
 ran-wrote text before out size ran = by-case (running text (length before)) refl (run-case text (length before))
   where
-    by-case : (a : Reading (List ℕ)) → running text (length before) ≡ a → RunCase text (length before) a → (x : Instance) × Wrote text x out
+    by-case : (a : Answer (List ℕ)) → running text (length before) ≡ a → RunCase text (length before) a → (x : Instance) × Wrote text x out
     by-case (accepted r) e (fits x read room) = (x, record { read = read; behind = drop (length (resultText x)) before; front = rw e at (ran .buffer) })
-    by-case (refused number line) e (short x read room) = absurd (written-not-refused size 9 0 (rw e at (ran .answered)))
-    by-case (refused number line) e (unread _ _ read) = absurd (written-not-refused size number line (rw e at (ran .answered)))
+    by-case (refused number line) e (short x read room) = absurd (accepted-not-refused size 9 0 (rw e at (ran .answered)))
+    by-case (refused number line) e (unread _ _ read) = absurd (accepted-not-refused size number line (rw e at (ran .answered)))
 
 answered-wrote : (text before out : List ℕ) (code : ℕ) → code < refusalsFrom → RunAnswered text before out code → (x : Instance) × Wrote text x out
 answered-wrote text before out code small (result x ticket room size less front) =
@@ -46,7 +46,7 @@ program-wrote : (text : List ℕ) (x : Instance) → readTicket text ≡ accepte
 unfolding programWrites written
 program-wrote text x read = by-case (running text (resultSize 64)) refl (run-case text (resultSize 64))
   where
-    by-case : (a : Reading (List ℕ)) → running text (resultSize 64) ≡ a → RunCase text (resultSize 64) a → Wrote text x (programWrites text)
+    by-case : (a : Answer (List ℕ)) → running text (resultSize 64) ≡ a → RunCase text (resultSize 64) a → Wrote text x (programWrites text)
     by-case (accepted r) e (fits y again room) =
         let same : y ≡ x = cc in
         record { read = read; behind = []; front = ap written e ∙ ap resultText same ∙ sym (append-nil (resultText x)) }

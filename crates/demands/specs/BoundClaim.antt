@@ -8,8 +8,7 @@ use Rattle.consensus.specs.Instance.{Instance}
 use Rattle.coordinator.specs.SpeakerLimits.{boundBySpeakers, commitsBySpeakers}
 use Rattle.coordinator_laws.specs.SpeakerBound.{SpeakerBound}
 use Rattle.coordinator_laws.specs.CountsBySets.{CountsBySets}
-use Rattle.ticket_format.specs.Reading.{accepted}
-use Rattle.ticket_format.specs.Ticket.{readTicket}
+use Rattle.demands.specs.OfAccepted.{OfAccepted}
 use Rattle.demands.specs.OutputSays.{Counts, countsSaid}
 use Rattle.demands.specs.Written.{Wrote}
 
@@ -21,8 +20,8 @@ pub record CountsBounded (n : ℕ) (counts : Counts) : Type 0 where
   pub commits : counts .commitsSent ≤ commitsBySpeakers n (counts .speakers)
 
 pub record BoundClaim : Type 0 where
-  pub rounds : (text : List ℕ) (x : Instance) → readTicket text ≡ accepted x → SpeakerBound x
+  pub rounds : OfAccepted SpeakerBound
   -- a round counts as many messages as the set of those to whom they are sent and that of the undecided have ones in common
-  pub bySets : (text : List ℕ) (x : Instance) → readTicket text ≡ accepted x → CountsBySets x
+  pub bySets : OfAccepted CountsBySets
   pub said : (text : List ℕ) (x : Instance) (out : List ℕ) (counts : Counts) → Wrote text x out → countsSaid out (x .processes) ≡ some counts
       → CountsBounded (x .processes) counts

@@ -12,36 +12,30 @@ use Rattle.consensus.specs.Consensus.{UniformConsensus, CountsCrashes, NoLater,
 use Rattle.coordinator.specs.WellFormed.{WellFormed}
 use Rattle.coordinator_laws.specs.Pairing.{Paired}
 use Rattle.ticket_laws.specs.TicketText.{ticketText}
-use Rattle.ticket_format.specs.Reading.{accepted}
+use Rattle.general.specs.Answer.{accepted}
 use Rattle.ticket_format.specs.Ticket.{readTicket}
+use Rattle.demands.specs.OfAccepted.{OfAccepted}
 use Rattle.demands.specs.OutputSays.{Counts, OutputSays}
 use Rattle.demands.specs.Written.{Wrote}
 use Rattle.demands.specs.PairedTexts.{PairedTexts}
 
--- Of the rounds of every accepted text, and of every two that are paired line by line.
+-- Of the rounds of every accepted text, and of every two whose instances are paired.
 pub record RoundsClaim : Type 0 where
-  pub consensus : (text : List ℕ) (x : Instance) → readTicket text ≡ accepted x → UniformConsensus (latestOf x) x (endOf x)
-  pub crashes : (text : List ℕ) (x : Instance) → readTicket text ≡ accepted x → CountsCrashes (crashesOf x) x (endOf x)
+  pub consensus : OfAccepted (λ x. UniformConsensus (latestOf x) x (endOf x))
+  pub crashes : OfAccepted (λ x. CountsCrashes (crashesOf x) x (endOf x))
   -- f, so counted by failure lines, is the number of processes that end crashed
-  pub crashed : (text : List ℕ) (x : Instance) → readTicket text ≡ accepted x → crashesOf x ≡ crashedCount (endsOf x (endOf x))
-  pub noLater : (a b : List ℕ) (x y : Instance) → readTicket a ≡ accepted x → readTicket b ≡ accepted y → PairedTexts a b → NoLater x (endOf x) y (endOf y)
+  pub crashed : OfAccepted (λ x. crashesOf x ≡ crashedCount (endsOf x (endOf x)))
+  pub noLater : (a b : List ℕ) (x y : Instance) → readTicket a ≡ accepted x → readTicket b ≡ accepted y → Paired x y → NoLater x (endOf x) y (endOf y)
 
--- Two texts are accepted, and the instances that they describe are paired.
-pub record PairedInstances (a b : List ℕ) (x y : Instance) : Type 0 where
-  pub first : readTicket a ≡ accepted x
-  pub second : readTicket b ≡ accepted y
-  -- however their lines stand
-  pub paired : Paired x y
-
--- Of every two such texts.
-unfoldable pub InstancesClaim : Type 0
-InstancesClaim = (a b : List ℕ) (x y : Instance) → PairedInstances a b x y → NoLater x (endOf x) y (endOf y)
+-- Texts that are paired line by line describe paired instances.
+abbrev pub TextsPaired : Type 0
+TextsPaired = (a b : List ℕ) (x y : Instance) → readTicket a ≡ accepted x → readTicket b ≡ accepted y → PairedTexts a b → Paired x y
 
 -- The tickets of two well-formed instances that are paired are paired line by line.
 unfoldable pub TicketsPaired : Type 0
 TicketsPaired = (x y : Instance) → WellFormed x → WellFormed y → Paired x y → PairedTexts (ticketText x) (ticketText y)
 
--- Of the ends and the f that the bytes of a result say, wherever running writes one; and of every two results whose texts are paired.
+-- Of the ends and the f that the bytes of a result say, wherever running writes one; and of every two results whose texts describe paired instances.
 pub record OutputClaim : Type 0 where
   pub consensus : (text : List ℕ) (x : Instance) (out : List ℕ) (ends : ℕ → State) (counts : Counts) → Wrote text x out → OutputSays x out ends counts
       → UniformConsensus (suc (counts .crashes)) x ends
@@ -51,11 +45,11 @@ pub record OutputClaim : Type 0 where
   pub crashed : (text : List ℕ) (x : Instance) (out : List ℕ) (ends : ℕ → State) (counts : Counts) → Wrote text x out → OutputSays x out ends counts
       → counts .crashes ≡ crashedCount (endsOf x ends)
   pub noLater : (a b : List ℕ) (x y : Instance) (out out′ : List ℕ) (ends ends′ : ℕ → State) (counts counts′ : Counts)
-      → Wrote a x out → Wrote b y out′ → OutputSays x out ends counts → OutputSays y out′ ends′ counts′ → PairedTexts a b → NoLater x ends y ends′
+      → Wrote a x out → Wrote b y out′ → OutputSays x out ends counts → OutputSays y out′ ends′ counts′ → Paired x y → NoLater x ends y ends′
 
 -- Demand 3: these claims.
 pub record Demand3 : Type 0 where
   pub rounds : RoundsClaim
-  pub instances : InstancesClaim
+  pub texts : TextsPaired
   pub tickets : TicketsPaired
   pub outputs : OutputClaim

@@ -1,3 +1,4 @@
+pub mod OfAccepted
 pub mod OutputSays
 pub mod Written
 pub mod PairedTexts

@@ -8,10 +8,12 @@ use Rattle.consensus.specs.Instance.{Instance}
 use Rattle.consensus.specs.State.{State}
 use Rattle.consensus.specs.Consensus.{IsProcess, Decides, CrashesUndecided}
 use Rattle.coordinator.specs.Run.{lastRound, endOf}
-use Rattle.ticket_format.specs.Reading.{accepted}
+use Rattle.general.specs.Answer.{accepted}
 use Rattle.ticket_format.specs.Ticket.{readTicket}
 use Rattle.ticket_laws.specs.FirstWrong.{FirstWrong}
 use Rattle.answers.specs.Code.{refusalCode}
+use Rattle.answers.specs.Reply.{answerBy}
+use Rattle.answers.specs.declared.Reply.the-variants.{Given}
 use Rattle.pricing.specs.Price.{priceOf}
 use Rattle.pricing.specs.PricedLines.{Priced, Unpriced}
 use Rattle.pricing.specs.Largest.{largestQuote}
@@ -25,8 +27,7 @@ use Rattle.part_host.specs.PartEnds.{endByPart}
 use Rattle.pricing_format.specs.Quoting.{quotedOr16, ofLines, quoting}
 use Rattle.pricing_format.specs.OwnQuote.{ownQuote}
 use Rattle.pricing_format.specs.QuoteCall.{QuoteCall, PriceCall}
-use Rattle.quotes.specs.Answer.{quoteOfAnswer}
-use Rattle.quotes.specs.declared.QuoteAnswer.the-variants.{Quote}
+use Rattle.demands.specs.OfAccepted.{OfAccepted}
 use Rattle.demands.specs.OutputSays.{Counts, OutputSays}
 use Rattle.demands.specs.Written.{Wrote}
 
@@ -61,8 +62,8 @@ pub record QuoteClaim : Type 0 where
   pub answered : (text costs : List ℕ) (p before after code : ℕ) → QuoteCall text costs p before after code → QuoteAnswered text costs p before after code
   pub priced : (state costs : List ℕ) (before after code : ℕ) → PriceCall state costs before after code → PriceAnswered state costs before after code
   -- any two that decided quote the same penny for the same lines: in the rounds, by the library's own contract and by the C call's
-  pub rounds : (text : List ℕ) (x : Instance) → readTicket text ≡ accepted x → UniformQuotes x (endOf x)
-  pub given : (text costs : List ℕ) (p q a b : ℕ) → quoteOfAnswer (Quote a) ≡ quoting text costs p → quoteOfAnswer (Quote b) ≡ quoting text costs q → a ≡ b
+  pub rounds : OfAccepted (λ x. UniformQuotes x (endOf x))
+  pub given : (text costs : List ℕ) (p q a b : ℕ) → answerBy (Given a) ≡ quoting text costs p → answerBy (Given b) ≡ quoting text costs q → a ≡ b
   pub called : (text costs : List ℕ) (p q before before′ after after′ : ℕ) → QuoteCall text costs p before after 0 → QuoteCall text costs q before′ after′ 0
       → after ≡ after′
   -- by the bytes of a result, wherever running writes one; and by what they say of a process the call answers, a quote or a refusal
@@ -71,7 +72,7 @@ pub record QuoteClaim : Type 0 where
   pub byOutput : (text : List ℕ) (x : Instance) (out : List ℕ) (ends : ℕ → State) (counts : Counts) (costs : List ℕ) (p : ℕ)
       → Wrote text x out → OutputSays x out ends counts → IsProcess x p → quoting text costs p ≡ ofLines costs (quotedOr16 (quoteBy (ends p) costs))
   -- by the nine bytes of the process parts
-  pub parts : (text : List ℕ) (x : Instance) → readTicket text ≡ accepted x → UniformQuotes x (endByPart x)
+  pub parts : OfAccepted (λ x. UniformQuotes x (endByPart x))
   -- a part that prices by its own nine bytes when the run is over answers what the ticket's call does for its process, a quote or a refusal
   pub own : (text : List ℕ) (x : Instance) (costs : List ℕ) (p : ℕ) → readTicket text ≡ accepted x → IsProcess x p
       → ownQuote (bytesKept (endPartOf x p)) costs ≡ quoting text costs p

@@ -9,17 +9,17 @@ use Rattle.consensus.specs.Instance.{Instance}
 use Rattle.consensus.specs.Consensus.{IsProcess}
 use Rattle.coordinator.specs.Reason.{reasonOf, reasonsOf}
 use Rattle.coordinator_laws.specs.TrueReasons.{IsRound, TrueReason, ReasonsTrue, ReasonsByEnds}
-use Rattle.ticket_format.specs.Reading.{accepted}
+use Rattle.general.specs.Answer.{accepted}
 use Rattle.ticket_format.specs.Ticket.{readTicket}
 use Rattle.ticket_laws.specs.FirstWrong.{FirstWrong}
 use Rattle.answers.specs.Reason.{reason, reasonsSize}
 use Rattle.answers.specs.Code.{refusalsFrom, refusalCode, numberCode, ReasonsCall}
-use Rattle.running.specs.declared.RunAnswer.the-variants.{Written}
-use Rattle.reasons.specs.Answer.{reasonOfAnswer, Explained}
-use Rattle.reasons.specs.declared.ReasonAnswer.{ReasonAnswer}
-use Rattle.reasons.specs.declared.ReasonAnswer.the-variants.{Reason}
+use Rattle.answers.specs.Reply.{answerBy, Explained}
+use Rattle.answers.specs.declared.Reply.{Reply}
+use Rattle.answers.specs.declared.Reply.the-variants.{Given}
+use Rattle.demands.specs.OfAccepted.{OfAccepted}
 
--- Reason k is true of process p in round r, and no other is.
+-- Given k is true of process p in round r, and no other is.
 pub record OnlyReason (x : Instance) (p r k : ℕ) : Type 0 where
   pub holds : TrueReason x p r k
   pub only : (j : ℕ) → TrueReason x p r j → j ≡ k
@@ -55,12 +55,12 @@ pub record ReasonClaim : Type 0 where
   pub answered : (text : List ℕ) (p r code : ℕ) → code ≡ numberCode (reason text p r) → ReasonAnswered text p r code
   pub allAnswered : (text before after : List ℕ) (code : ℕ) → ReasonsCall text before after code → ReasonsAnswered text before after code
   -- what is given is the only true reason, by the library's own contract and by the C call's
-  pub given : (text : List ℕ) (x : Instance) (p r : ℕ) (answer : ReasonAnswer) → readTicket text ≡ accepted x → IsProcess x p → IsRound x r
-      → reasonOfAnswer answer ≡ reason text p r → (k : ℕ) × (answer ≡ Reason k) × OnlyReason x p r k
+  pub given : (text : List ℕ) (x : Instance) (p r : ℕ) (answer : Reply) → readTicket text ≡ accepted x → IsProcess x p → IsRound x r
+      → answerBy answer ≡ reason text p r → (k : ℕ) × (answer ≡ Given k) × OnlyReason x p r k
   pub called : (text : List ℕ) (x : Instance) (p r code : ℕ) → readTicket text ≡ accepted x → IsProcess x p → IsRound x r
       → code ≡ numberCode (reason text p r) → OnlyReason x p r code
   -- so is every byte that is written where all are asked for
-  pub allGiven : (text before after : List ℕ) (size : ℕ) → Explained text before after (Written size)
+  pub allGiven : (text before after : List ℕ) (size : ℕ) → Explained text before after (Given size)
       → (x : Instance) × (readTicket text ≡ accepted x) × AllReasons x after
   pub allCalled : (text before after : List ℕ) (code : ℕ) → ReasonsCall text before after code → code < refusalsFrom
       → (x : Instance) × (readTicket text ≡ accepted x) × AllReasons x after
@@ -68,4 +68,4 @@ pub record ReasonClaim : Type 0 where
   pub alike : (text before after : List ℕ) (x : Instance) (p r code single : ℕ) → readTicket text ≡ accepted x → IsProcess x p → IsRound x r
       → ReasonsCall text before after code → code < refusalsFrom → single ≡ numberCode (reason text p r) → getD after (placeOf (x .processes) p r) 0 ≡ single
   -- what is claimed of the rounds, and what the reasons have to do with how the processes end
-  pub rounds : (text : List ℕ) (x : Instance) → readTicket text ≡ accepted x → ReasonsTrue x × ReasonsByEnds x
+  pub rounds : OfAccepted (λ x. ReasonsTrue x × ReasonsByEnds x)

@@ -5,13 +5,13 @@ use mathlib.Core.Path.{_≡_}
 use Prim.Native.Nat.{ℕ, _+_, _*_, _≤_, _<_}
 use lib.ListN.{length, drop}
 use Rattle.consensus.specs.Instance.{Instance}
-use Rattle.ticket_format.specs.Reading.{accepted}
+use Rattle.general.specs.Answer.{accepted}
 use Rattle.ticket_format.specs.Ticket.{readTicket}
 use Rattle.answers.specs.ResultLine.{resultText}
 use Rattle.answers.specs.Code.{refusalCode, RunCall}
-use Rattle.running.specs.Answer.{Ran}
-use Rattle.running.specs.declared.RunAnswer.{RunAnswer}
-use Rattle.running.specs.declared.RunAnswer.the-variants.{Written, Refused}
+use Rattle.answers.specs.Reply.{Ran}
+use Rattle.answers.specs.declared.Reply.{Reply}
+use Rattle.answers.specs.declared.Reply.the-variants.{Given, Refused}
 
 -- The bytes that the result of n processes needs.
 abbrev pub needed : (n : ℕ) → ℕ
@@ -23,12 +23,12 @@ Holds x before after = after ≡ resultText x ++ drop (needed (x .processes)) be
 
 pub record RoomClaim : Type 0 where
   -- a buffer that is shorter gets refusal 9, of no line, and stays as it was
-  pub short : (text before after : List ℕ) (answer : RunAnswer) (x : Instance) → readTicket text ≡ accepted x → Ran text before after answer
+  pub short : (text before after : List ℕ) (answer : Reply) (x : Instance) → readTicket text ≡ accepted x → Ran text before after answer
       → length before < needed (x .processes) → (answer ≡ Refused 9 0) × (after ≡ before)
   pub shortCalled : (text before after : List ℕ) (code : ℕ) (x : Instance) → readTicket text ≡ accepted x → RunCall text before after code
       → length before < needed (x .processes) → (code ≡ refusalCode 9 0) × (after ≡ before)
   -- into any other that many bytes are written
-  pub enough : (text before after : List ℕ) (answer : RunAnswer) (x : Instance) → readTicket text ≡ accepted x → Ran text before after answer
-      → needed (x .processes) ≤ length before → (answer ≡ Written (needed (x .processes))) × Holds x before after
+  pub enough : (text before after : List ℕ) (answer : Reply) (x : Instance) → readTicket text ≡ accepted x → Ran text before after answer
+      → needed (x .processes) ≤ length before → (answer ≡ Given (needed (x .processes))) × Holds x before after
   pub enoughCalled : (text before after : List ℕ) (code : ℕ) (x : Instance) → readTicket text ≡ accepted x → RunCall text before after code
       → needed (x .processes) ≤ length before → (code ≡ needed (x .processes)) × Holds x before after

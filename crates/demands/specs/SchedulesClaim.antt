@@ -5,7 +5,8 @@ use mathlib.Core.Path.{_≡_}
 use Prim.Native.Nat.{ℕ}
 use Rattle.consensus.specs.Instance.{Instance}
 use Rattle.consensus.specs.Consensus.{IsProcess, NoLater}
-use Rattle.ticket_format.specs.Reading.{accepted}
+use Rattle.coordinator_laws.specs.Pairing.{Paired}
+use Rattle.general.specs.Answer.{accepted}
 use Rattle.ticket_format.specs.Ticket.{readTicket}
 use Rattle.part_host.specs.Part.{partOf}
 use Rattle.part_schedules.specs.Steps.{unstarted}
@@ -16,18 +17,18 @@ use Rattle.part_schedules.specs.ByRun.{partByRun}
 use Rattle.part_schedules.specs.AnyOrder.{Whole, endsBy, AnyOrder}
 use Rattle.part_schedules.specs.Permutations.{Permutations}
 use Rattle.part_schedules.specs.Tenders.{TenderStep, playMixed, ofTender, answersTo, TendersApart}
-use Rattle.demands.specs.PairedTexts.{PairedTexts}
+use Rattle.demands.specs.OfAccepted.{OfAccepted}
 
 -- Of the parts of every accepted text, in every order.
 pub record SchedulesClaim : Type 0 where
   -- a schedule in order leaves the parts that the run gives, no call of an open process is refused, and demand 3's first half holds of the bytes
-  pub anyOrder : (text : List ℕ) (x : Instance) → readTicket text ≡ accepted x → AnyOrder x
+  pub anyOrder : OfAccepted AnyOrder
   -- all processes in whichever order, another one in each round, are a schedule in order once those are passed over that have crashed or, in closing, crash
-  pub permutations : (text : List ℕ) (x : Instance) → readTicket text ≡ accepted x → Permutations x
+  pub permutations : OfAccepted Permutations
   -- a process that has decided may be called or left out wherever one likes, and keeps its bytes from then on
   pub endedCalls : EndedCalls
-  -- demand 3's second half, of two texts that are paired line by line
-  pub noLater : (a b : List ℕ) (x y : Instance) → readTicket a ≡ accepted x → readTicket b ≡ accepted y → PairedTexts a b
+  -- demand 3's second half, of two texts that describe paired instances
+  pub noLater : (a b : List ℕ) (x y : Instance) → readTicket a ≡ accepted x → readTicket b ≡ accepted y → Paired x y
       → (s u : Schedule) → Whole x s → Whole y u → NoLater x (endsBy (played x s .parts)) y (endsBy (played y u .parts))
   -- tenders that are played side by side: tender i ends as its own run says, and its calls are answered what is due, whatever is done with the others
   pub mixed : (text : List ℕ) (xs : ℕ → Instance) (steps : List TenderStep) (i : ℕ) (s : Schedule) → readTicket text ≡ accepted (xs i)

@@ -10,8 +10,7 @@ use Rattle.consensus.specs.Consensus.{IsProcess}
 use Rattle.coordinator.specs.Count.{dataIn, commitsIn}
 use Rattle.coordinator.specs.Run.{runTo}
 use Rattle.coordinator_laws.specs.MessagesBySender.{MessagesBySender}
-use Rattle.ticket_format.specs.Reading.{accepted}
-use Rattle.ticket_format.specs.Ticket.{readTicket}
+use Rattle.demands.specs.OfAccepted.{OfAccepted}
 use Rattle.demands.specs.OutputSays.{Sent, Counts, sentSaid, countsSaid}
 use Rattle.demands.specs.Written.{Wrote}
 
@@ -30,7 +29,7 @@ unfoldable pub sentInRound : Instance → (r : ℕ) → Sent
 sentInRound x r = record { dataSent = dataIn x r (runTo x (r - 1) .states); commitsSent = commitsIn x r (runTo x (r - 1) .states) }
 
 pub record SenderClaim : Type 0 where
-  pub rounds : (text : List ℕ) (x : Instance) → readTicket text ≡ accepted x → MessagesBySender x
+  pub rounds : OfAccepted MessagesBySender
   -- what the n station lines of a result say adds up to what its last line says
   pub addUp : (text : List ℕ) (x : Instance) (out : List ℕ) (sent : ℕ → Sent) (counts : Counts) → Wrote text x out → MessagesSaid x out sent counts
       → AddsUp (x .processes) sent counts

@@ -10,7 +10,7 @@ use Rattle.coordinator.specs.Run.{crashesOf, endOf, latestOf}
 use Rattle.coordinator_laws.specs.TrueReasons.{IsRound}
 use Rattle.text.specs.Line.{Line, linesOf}
 use Rattle.text.specs.Split.{Split}
-use Rattle.ticket_format.specs.Reading.{accepted}
+use Rattle.general.specs.Answer.{accepted}
 use Rattle.ticket_format.specs.Ticket.{readTicket}
 use Rattle.ticket_format.specs.ReadingCases.{fullest}
 use Rattle.ticket_laws.specs.TextsJudged.{TextJudged}

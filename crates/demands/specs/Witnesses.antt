@@ -12,9 +12,10 @@ use Rattle.consensus.specs.Instance.{Instance}
 use Rattle.consensus.specs.State.{crashed}
 use Rattle.consensus.specs.Consensus.{IsProcess, Decides}
 use Rattle.consensus.specs.FourProcesses.{afterOneCommit, dataToTheLast}
+use Rattle.coordinator_laws.specs.Pairing.{Paired}
 use Rattle.coordinator.specs.Run.{runOf, endOf}
 use Rattle.coordinator_laws.specs.TrueReasons.{IsRound, StaysUp, endRound}
-use Rattle.ticket_format.specs.Reading.{accepted}
+use Rattle.general.specs.Answer.{accepted}
 use Rattle.ticket_format.specs.Ticket.{readTicket}
 use Rattle.answers.specs.Settle.{settling}
 use Rattle.answers.specs.Reason.{reason}
@@ -24,12 +25,8 @@ use Rattle.answers.specs.Table.{case1, case3, case5, case6}
 use Rattle.answers.specs.FurtherRuns.{crashesLater}
 use Rattle.answers.specs.LetterRuns.{case1Mixed}
 use Rattle.answers.specs.Code.{refusalsFrom, refusalCode, RunCall, ReasonsCall, numberCode}
-use Rattle.running.specs.Answer.{Ran}
-use Rattle.running.specs.declared.RunAnswer.the-variants.{Written}
-use Rattle.running.specs.Settling.{settlingOf}
-use Rattle.running.specs.declared.SettleAnswer.the-variants.{Round}
-use Rattle.reasons.specs.Answer.{reasonOfAnswer, Explained}
-use Rattle.reasons.specs.declared.ReasonAnswer.the-variants.{Reason}
+use Rattle.answers.specs.Reply.{answerBy, Ran, Explained}
+use Rattle.answers.specs.declared.Reply.the-variants.{Given}
 use Rattle.part_format.specs.PartState.{ValidBytes}
 use Rattle.part_host.specs.Part.{Part, partOf, bytesKept}
 use Rattle.part_host.specs.Host.{partsTo, endPartOf}
@@ -39,13 +36,10 @@ use Rattle.part_schedules.specs.Permutations.{passingSchedule}
 use Rattle.part_schedules.specs.Example.{ascending, permuted, case1Left, afterAllCommits, case3Left, case5Left}
 use Rattle.pricing_format.specs.Quoting.{quoting}
 use Rattle.pricing_format.specs.QuoteCall.{QuoteCall, PriceCall}
-use Rattle.quotes.specs.Answer.{quoteOfAnswer}
-use Rattle.quotes.specs.declared.QuoteAnswer.the-variants.{Quote}
 use Rattle.demands.specs.OutputSays.{Sent, Counts, sentSaid, sentOf}
 use Rattle.demands.specs.Written.{Wrote}
 use Rattle.demands.specs.SenderClaim.{MessagesSaid}
 use Rattle.demands.specs.PairedTexts.{PairedTexts}
-use Rattle.demands.specs.Demand3.{PairedInstances}
 
 -- Case 1's text, the same in mixed letters, case 3's, and case 1's without its failure line.
 unfoldable pub crashText : List ℕ
@@ -77,7 +71,9 @@ pub record PairMet (a b : List ℕ) (r s : ℕ) : Type 0 where
   pub first : Instance
   pub second : Instance
   pub lines : PairedTexts a b
-  pub instances : PairedInstances a b first second
+  pub readFirst : readTicket a ≡ accepted first
+  pub readSecond : readTicket b ≡ accepted second
+  pub paired : Paired first second
   pub decides : Decides first (endOf first) 2 r 10
   pub decidesSecond : Decides second (endOf second) 2 s 10
 
@@ -85,7 +81,7 @@ pub record PairMet (a b : List ℕ) (r s : ℕ) : Type 0 where
 pub record RunMet (text : List ℕ) (size : ℕ) : Type 0 where
   pub before : List ℕ
   pub after : List ℕ
-  pub ran : Ran text before after (Written size)
+  pub ran : Ran text before after (Given size)
   pub called : RunCall text before after size
   pub small : size < refusalsFrom
 
@@ -100,7 +96,7 @@ pub record SentMet (text out : List ℕ) (rows : List (Option Sent)) (counts : C
 pub record SettledMet (text : List ℕ) (code rounds p v : ℕ) : Type 0 where
   pub instance : Instance
   pub read : readTicket text ≡ accepted instance
-  pub answered : settlingOf (Round code) ≡ settling text
+  pub answered : answerBy (Given code) ≡ settling text
   pub called : code ≡ numberCode (settling text)
   pub last : runOf instance .rounds ≡ rounds
   pub decides : Decides instance (endOf instance) p rounds v
@@ -113,7 +109,7 @@ pub record ReasonMet (text : List ℕ) (p r k ended : ℕ) : Type 0 where
   pub process : IsProcess instance p
   pub round : IsRound instance r
   pub stays : StaysUp instance p r
-  pub answered : reasonOfAnswer (Reason k) ≡ reason text p r
+  pub answered : answerBy (Given k) ≡ reason text p r
   pub called : k ≡ numberCode (reason text p r)
   pub later : r < endRound (endOf instance p)
   pub coordinator : endRound (endOf instance r) ≡ ended
@@ -129,7 +125,7 @@ pub record CrashMet (text : List ℕ) (p q r : ℕ) : Type 0 where
 
 -- All reasons of a text are written into a buffer, in Rattle and in C.
 pub record ReasonsMet (text before after : List ℕ) (size : ℕ) : Type 0 where
-  pub answered : Explained text before after (Written size)
+  pub answered : Explained text before after (Given size)
   pub called : ReasonsCall text before after size
   pub small : size < refusalsFrom
 
@@ -139,7 +135,7 @@ pub record QuoteMet (text costs : List ℕ) (p pence : ℕ) : Type 0 where
   pub instance : Instance
   pub read : readTicket text ≡ accepted instance
   pub process : IsProcess instance p
-  pub answered : quoteOfAnswer (Quote pence) ≡ quoting text costs p
+  pub answered : answerBy (Given pence) ≡ quoting text costs p
   pub called : QuoteCall text costs p 7 pence 0
   pub own : PriceCall (bytesKept (endPartOf instance p)) costs 7 pence 0
 

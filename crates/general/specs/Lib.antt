@@ -1,3 +1,4 @@
+pub mod Answer
 pub mod Indexed
 pub mod Search
 pub mod Counts

@@ -5,7 +5,7 @@ use Prim.Native.Nat.{ℕ, _<_}
 use lib.ListN.{getD}
 use Rattle.general.proofs.Table.{entry-at}
 use Rattle.text.specs.HexText.{digitOf}
-use Rattle.hex.specs.Letters.{letterTable}
+use Rattle.hex.specs.code.Letters.{letterTable}
 
 pub letter-at : (letters : List ℕ) (v : ℕ) → letters ≡ letterTable → v < 16 → getD letters v 0 ≡ digitOf v
 unfolding letterTable

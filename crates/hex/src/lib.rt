@@ -5,7 +5,7 @@ ghost use mathlib.Core.List.{_++_};
 ghost use Prim.Native.Nat.{_+_, _/_, _%_, _≤_, _<_};
 ghost use lib.ListN.{length, set, drop};
 ghost use Rattle.text.specs.HexText.{digitOf, hexLine, lineSize};
-ghost use Rattle.hex.specs.Letters.{letterTable};
+ghost use Rattle.hex.specs.code.Letters.{letterTable};
 
 // The digits by value.
 const LETTERS: [u8; 16] = *b"0123456789ABCDEF";

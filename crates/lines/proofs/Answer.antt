@@ -1,4 +1,4 @@
--- What reading a line answers, a law for each return of `Cursor::read_by_table`: by the bytes whose digits stand from its place on, and by what stands behind.
+-- What reading a line answers, a law for each return of `Cursor::read`: by the bytes whose digits stand from its place on, and by what stands behind.
 -- Assumes nothing.
 use mathlib.Core.List.{List, [], _∷_}
 use mathlib.Core.Path.{_≡_, refl, ap, _∙_}
@@ -12,8 +12,8 @@ use Rattle.general.proofs.Tests.{by-equal, by-order}
 use Rattle.text.specs.Digit.{digitValue, isDigit}
 use Rattle.text.specs.Line.{bytes, noLine, even, odd, broken, scan, closed, unclosed, linesFrom, linesOf}
 use Rattle.text.proofs.LineSteps.{lines-digit, lines-other, lines-closed}
-use Rattle.lines.specs.Read.{firstLine, readAt}
-use Rattle.lines.specs.Scanned.{Scanned, Stops}
+use Rattle.lines.specs.code.Read.{firstLine, readAt}
+use Rattle.lines.specs.code.Scanned.{Scanned, Stops}
 use Rattle.lines.specs.declared.LineRead.the-variants.{Line as line, NoLine}
 
 pub answer-past : (text : List ℕ) (at : ℕ) → length text ≤ at → readAt text at ≡ NoLine

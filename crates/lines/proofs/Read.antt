@@ -1,4 +1,4 @@
--- What callers of `Cursor::read` and `Cursor::read_by_table` know by the answer: an accepted line, no line, and the end of the text. Assumes nothing.
+-- What callers of `Cursor::read` know by the answer: an accepted line, no line, and the end of the text. Assumes nothing.
 use mathlib.Core.List.{List, [], _∷_, _++_}
 use mathlib.Core.Path.{_≡_, refl, sym, ap, subst, _∙_}
 use mathlib.Core.Bool.{Bool, true, false, cond}
@@ -11,8 +11,8 @@ use Rattle.general.proofs.Bytes.{Bytes}
 use Rattle.text.specs.Digit.{digitValue, isDigit}
 use Rattle.text.specs.Line.{Line, bytes, noLine, Scan, even, odd, broken, scan, closed, unclosed, linesFrom, linesOf}
 use Rattle.text.proofs.LineBytes.{Lines, lines-bytes}
-use Rattle.lines.specs.Words.{upperWord, lowerWord}
-use Rattle.lines.specs.Read.{firstLine, readAt}
+use Rattle.lines.specs.code.Words.{upperWord, lowerWord}
+use Rattle.lines.specs.code.Read.{firstLine, readAt}
 use Rattle.lines.specs.declared.Cursor.{Cursor}
 use Rattle.lines.specs.declared.LineRead.the-variants.{Line as line, NoLine}
 use Rattle.lines.proofs.Answer.{broken-first}

@@ -13,8 +13,8 @@ use Rattle.text.specs.Digit.{noDigit, digitValue, isDigit}
 use Rattle.text.specs.Line.{even, odd, scan, linesFrom, linesOf}
 use Rattle.text.proofs.Digit.{value-digit, value-no-digit}
 use Rattle.text.proofs.LineSteps.{lines-digit}
-use Rattle.lines.specs.Words.{upperWord, lowerWord}
-use Rattle.lines.specs.Scanned.{Scanned, Stops}
+use Rattle.lines.specs.code.Words.{upperWord, lowerWord}
+use Rattle.lines.specs.code.Scanned.{Scanned, Stops}
 use Rattle.lines.proofs.Words.{word, upperByte, lower-more, upper-more}
 
 -- Before the first digit.

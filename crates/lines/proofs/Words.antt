@@ -9,7 +9,7 @@ use lib.ListN.{length}
 use Rattle.general.specs.BigEndian.{number}
 use Rattle.general.proofs.Bytes.{Bytes}
 use Rattle.general.proofs.BigEndian.{numberFrom-snoc, number-below, bytes-number}
-use Rattle.lines.specs.Words.{upperWord, lowerWord, lineBytes}
+use Rattle.lines.specs.code.Words.{upperWord, lowerWord, lineBytes}
 
 -- Where a word of 64 bits ends, and where its uppermost byte begins.
 abbrev pub word : ℕ

@@ -1,3 +1,1 @@
-pub mod Words
-pub mod Read
-pub mod Scanned
+pub mod code

@@ -3,8 +3,8 @@ ghost use mathlib.Core.Path.{_≡_};
 ghost use Prim.Native.Nat.{_<_};
 ghost use lib.ListN.{length};
 ghost use Rattle.text.specs.Digit.{digitTable};
-ghost use Rattle.lines.specs.Read.{readAt};
-ghost use Rattle.lines.specs.Scanned.{Scanned, Stops};
+ghost use Rattle.lines.specs.code.Read.{readAt};
+ghost use Rattle.lines.specs.code.Scanned.{Scanned, Stops};
 
 // The mark of a byte that is no digit, @ or 64: more than the values of two digits add up to.
 const NO_DIGIT: u8 = b'@';
@@ -65,7 +65,7 @@ pub enum LineRead {
 
 impl Cursor {
     // The line at the cursor's place, by a table that is lent. It looks at most one character behind the first that is no digit.
-    pub fn read_by_table(self, values: &[u8; 256], text: &[u8]) -> LineRead
+    pub fn read(self, values: &[u8; 256], text: &[u8]) -> LineRead
         requires { ⌜ now values ≡ digitTable ⌝ }
         ensures { λ r. ⌜ r ≡ readAt (now (text .entry)) (self .at) ⌝ }
     {
@@ -90,13 +90,5 @@ impl Cursor {
             tail: digits.tail,
             next: Cursor { at: end + 1 },
         }
-    }
-
-    // The same, by a table of its own.
-    pub fn read(self, text: &[u8]) -> LineRead
-        ensures { λ r. ⌜ r ≡ readAt (now (text .entry)) (self .at) ⌝ }
-    {
-        let values = digits::digit_table();
-        self.read_by_table(&values, text)
     }
 }

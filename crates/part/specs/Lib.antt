@@ -1,1 +1,1 @@
-pub mod RoundFits
+pub mod code

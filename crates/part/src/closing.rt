@@ -15,8 +15,8 @@ ghost use lib.ListN.{length};
 ghost use Rattle.coordinator.specs.Transition.{continues, decides};
 ghost use Rattle.part_format.specs.PartState.{stateFrom, stateBytes};
 ghost use Rattle.part_format.specs.Close.{stateAfter, closedOn};
-ghost use Rattle.part.specs.RoundFits.{RoundFits};
-ghost use Rattle.part_frames.specs.Heard.{messagesAs};
+ghost use Rattle.part.specs.code.RoundFits.{RoundFits};
+ghost use Rattle.part_frames.specs.code.Heard.{messagesAs};
 
 // Writes the state of a process that decides this value.
 fn decide(state: &mut [u8], value: u32)

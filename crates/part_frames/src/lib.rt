@@ -12,7 +12,7 @@ ghost use lib.Dec.{eqb};
 ghost use Rattle.coordinator.specs.Message.{estimateAndCommit};
 ghost use Rattle.part_format.specs.PartState.{stateFrom};
 ghost use Rattle.part_format.specs.Frame.{framesOf, messagesFrom, heardBy};
-ghost use Rattle.part_frames.specs.Heard.{heardAs};
+ghost use Rattle.part_frames.specs.code.Heard.{heardAs};
 
 // The kinds of frames, their first byte.
 const DATA_FRAME: u8 = 0x21;

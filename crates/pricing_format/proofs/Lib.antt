@@ -1,3 +1,4 @@
+pub mod ByState
 pub mod QuoteCases
 pub mod OwnCases
 pub mod QuotesApart

@@ -8,13 +8,10 @@ use Prim.Native.Nat.{ℕ}
 use native.Mathlib.Omega.{arith}
 use lib.Dec.{eqb, leb}
 use borrow.Author.Tests.{eqb-false}
-use Rattle.consensus.specs.Instance.{Instance}
 use Rattle.coordinator.specs.Run.{endOf}
-use Rattle.ticket_format.specs.Reading.{Reading, accepted, refused}
-use Rattle.ticket_format.specs.Ticket.{readTicket}
+use Rattle.general.specs.Answer.{Answer, accepted, refused}
 use Rattle.answers.specs.CodesApart.{Within, ReadOff}
-use Rattle.ticket_format.proofs.RefusalRange.{RefusedBy, lastRefused, ticket-refused}
-use Rattle.answers.proofs.CodesApart.{accepted-read, refused-read}
+use Rattle.answers.proofs.CodesApart.{accepted-read, refused-read, of-ticket}
 use Rattle.pricing.specs.Quote.{linesRefusal, quoteBy}
 use Rattle.pricing.proofs.Lines.{lines-refused}
 use Rattle.part_format.specs.PartState.{stateRefusal}
@@ -26,7 +23,7 @@ use Rattle.pricing_format.specs.QuoteCall.{refusalNumber}
 use Rattle.pricing_format.specs.QuotesApart.{ofQuoting, NumberReadOff, QuotesApart}
 
 -- A quote, or a refusal of no line that is one of 14 to 16.
-pub data QuoteOr : Reading ℕ → Type 0 where
+pub data QuoteOr : Answer ℕ → Type 0 where
   quote : (pence : ℕ) → QuoteOr (accepted pence)
   refusal : (number : ℕ) → Within 14 16 number → QuoteOr (refused number 0)
 
@@ -39,7 +36,7 @@ process-or : (b : Bool) (known : Option ℕ) → QuoteOr (cond b (quotedOr16 kno
 process-or true known = quoted-or known
 process-or false known = refusal 16 (omega arith, omega arith)
 
-of-lines-or : (costs : List ℕ) (answer : Reading ℕ) → QuoteOr answer → QuoteOr (ofLines costs answer)
+of-lines-or : (costs : List ℕ) (answer : Answer ℕ) → QuoteOr answer → QuoteOr (ofLines costs answer)
 unfolding ofLines
 of-lines-or costs answer h = by-test (eqb (linesRefusal costs) 0) refl
   where
@@ -50,28 +47,28 @@ of-lines-or costs answer h = by-test (eqb (linesRefusal costs) 0) refl
         refusal (linesRefusal costs) (least, omega arith)
 
 -- Of a ticket.
-abbrev Told : Reading ℕ → Type 0
+abbrev Told : Answer ℕ → Type 0
 Told answer = ReadOff (λ (pence : ℕ). 0) 0 0 ofQuoting answer
 
-told : {answer : Reading ℕ} → QuoteOr answer → Told answer
+told : {answer : Answer ℕ} → QuoteOr answer → Told answer
 told (quote pence) = accepted-read _ _ _ _ (omega arith) pence (omega arith, omega arith)
 told (refusal number within) =
     refused-read _ _ _ _ number 0 (omega (arith, within .0)) (omega (arith, within .1)) (omega arith) (inr within)
 
-quote-told : (costs : List ℕ) (p : ℕ) (reading : Reading Instance) → RefusedBy lastRefused reading → Told (quoteIn costs p reading)
-unfolding quoteIn RefusedBy
-quote-told costs p (accepted x) h = told (of-lines-or costs _ (process-or (leb 1 p && leb p (x .processes)) (quoteBy (endOf x p) costs)))
-quote-told costs p (refused number line) h =
-    refused-read _ _ _ _ number line (h .0) (omega (arith, h .1)) (omega (arith, h .2)) (inl (h .0, h .1))
+quote-told : (text costs : List ℕ) (p : ℕ) → Told (quoting text costs p)
+unfolding quoting quoteIn
+quote-told text costs p =
+    of-ticket _ _ _ _ text _ (λ _ h. inl h)
+    (λ x e. told (of-lines-or costs _ (process-or (leb 1 p && leb p (x .processes)) (quoteBy (endOf x p) costs))))
 
 -- Of a state.
-number-told : {answer : Reading ℕ} → QuoteOr answer → NumberReadOff answer
+number-told : {answer : Answer ℕ} → QuoteOr answer → NumberReadOff answer
 unfolding refusalNumber
 number-told (quote pence) = record { isQuoted = λ _. (pence, refl); isRefused = λ h. absurd (omega (arith, h)) }
 number-told (refusal number within) =
     record { isQuoted = λ e. absurd (omega (arith, e, within .0)); isRefused = λ _. (refl, inr within) }
 
-by-refusal-10 : (b : Bool) (answer : Reading ℕ) → QuoteOr answer → NumberReadOff (cond b (refused 10 0) answer)
+by-refusal-10 : (b : Bool) (answer : Answer ℕ) → QuoteOr answer → NumberReadOff (cond b (refused 10 0) answer)
 unfolding refusalNumber
 by-refusal-10 true answer h = record { isQuoted = λ e. absurd (omega (arith, e)); isRefused = λ _. (refl, inl refl) }
 by-refusal-10 false answer h = number-told h
@@ -82,5 +79,4 @@ state-told state costs =
     by-refusal-10 (eqb (stateRefusal state) 10) _ (of-lines-or costs _ (quoted-or (quoteBy (stateByPart (up state)) costs)))
 
 pub quotes-apart : QuotesApart
-unfolding quoting
-quotes-apart = record { ofTickets = λ text costs p. quote-told costs p (readTicket text) (ticket-refused text); ofStates = state-told }
+quotes-apart = record { ofTickets = quote-told; ofStates = state-told }

@@ -3,7 +3,7 @@ use mathlib.Core.List.{List, [], _∷_, map}
 use mathlib.Core.Path.{_≡_}
 use Prim.Native.Nat.{ℕ}
 use lib.ListN.{replicate}
-use Rattle.ticket_format.specs.Reading.{Reading, accepted, refused}
+use Rattle.general.specs.Answer.{Answer, accepted, refused}
 use Rattle.pricing_format.specs.OwnQuote.{ownQuote}
 
 -- Nine bytes of process 2, of four, of which two may crash, in this round, with this mark and with 03E801F4 for its value.
@@ -15,7 +15,7 @@ unfoldable pub fourth : (round mark : ℕ) → List ℕ
 fourth round mark = 4 ∷ 4 ∷ 2 ∷ round ∷ mark ∷ 3 ∷ 232 ∷ 1 ∷ 244 ∷ []
 
 -- What is answered to states on these costs.
-abbrev pub quotesOn : (costs : List ℕ) → (states : List (List ℕ)) → List (Reading ℕ)
+abbrev pub quotesOn : (costs : List ℕ) → (states : List (List ℕ)) → List (Answer ℕ)
 quotesOn costs states = map (λ (state : List ℕ). ownQuote state costs) states
 
 pub record OwnCases : Type 0 where

@@ -4,7 +4,7 @@ use mathlib.Core.List.{List}
 use Prim.Native.Nat.{ℕ}
 use mathlib.Core.Bool.{cond}
 use lib.Dec.{eqb}
-use Rattle.ticket_format.specs.Reading.{Reading, refused}
+use Rattle.general.specs.Answer.{Answer, refused}
 use Rattle.pricing.specs.Quote.{quoteBy}
 use Rattle.part_format.specs.PartState.{stateRefusal}
 use Rattle.part_host.specs.Part.{up}
@@ -13,5 +13,5 @@ use Rattle.pricing_format.specs.Quoting.{quotedOr16, ofLines}
 
 -- A quote by what the nine bytes say of their process; or a refusal, of no line: 10 as for speaking and closing, then 14 and 15, then 16 where they do not say
 -- that it has decided.
-unfoldable pub ownQuote : (state costs : List ℕ) → Reading ℕ
+unfoldable pub ownQuote : (state costs : List ℕ) → Answer ℕ
 ownQuote state costs = cond (eqb (stateRefusal state) 10) (refused 10 0) (ofLines costs (quotedOr16 (quoteBy (stateByPart (up state)) costs)))

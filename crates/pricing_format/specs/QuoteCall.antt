@@ -3,27 +3,27 @@
 use mathlib.Core.List.{List}
 use mathlib.Core.Path.{_≡_}
 use Prim.Native.Nat.{ℕ}
-use Rattle.ticket_format.specs.Reading.{Reading, accepted, refused}
+use Rattle.general.specs.Answer.{Answer, accepted, refused}
 use Rattle.answers.specs.Code.{codeOf}
 use Rattle.pricing_format.specs.Quoting.{quoting}
 use Rattle.pricing_format.specs.OwnQuote.{ownQuote}
 
 -- What the place holds afterwards: the quote; after a refusal what it held.
-unfoldable pub placeAfter : Reading ℕ → (before : ℕ) → ℕ
+unfoldable pub placeAfter : Answer ℕ → (before : ℕ) → ℕ
 placeAfter (accepted pence) before = pence
 placeAfter (refused number line) before = before
 
 -- 0, or the refusal with its line as every call with a ticket answers it.
-abbrev pub quoteCode : Reading ℕ → ℕ
+abbrev pub quoteCode : Answer ℕ → ℕ
 quoteCode answer = codeOf (λ pence. 0) answer
 
 -- 0, or the number of the refusal, as starting and closing answer it.
-unfoldable pub refusalNumber : Reading ℕ → ℕ
+unfoldable pub refusalNumber : Answer ℕ → ℕ
 refusalNumber (accepted pence) = 0
 refusalNumber (refused number line) = number
 
 -- A call that quotes, with a place that held `before`, answers this code and leaves `after`, where `tells` is how its answer is told as a number.
-pub record QuotingCall (tells : Reading ℕ → ℕ) (answer : Reading ℕ) (before after code : ℕ) : Type 0 where
+pub record QuotingCall (tells : Answer ℕ → ℕ) (answer : Answer ℕ) (before after code : ℕ) : Type 0 where
   pub answered : code ≡ tells answer
   pub place : after ≡ placeAfter answer before
 

@@ -5,7 +5,7 @@ use mathlib.Core.Path.{_≡_}
 use Prim.Native.Nat.{ℕ}
 use Prim.Native.String.{String}
 use lib.ListN.{length, replicate}
-use Rattle.ticket_format.specs.Reading.{Reading, accepted, refused}
+use Rattle.general.specs.Answer.{Answer, accepted, refused}
 use Rattle.text.specs.TextOf.{textOf}
 use Rattle.answers.specs.Table.{case1, case5, case6, case7, case8, case9, case12}
 use Rattle.answers.specs.AnswerCases.{RefusalRow, refusalRows}
@@ -21,16 +21,16 @@ proposing line =
 pub record Asked : Type 0 where
   pub process : ℕ
   pub costs : List ℕ
-  pub answer : Reading ℕ
+  pub answer : Answer ℕ
 
-abbrev pub ask : (process : ℕ) → (costs : List ℕ) → Reading ℕ → Asked
+abbrev pub ask : (process : ℕ) → (costs : List ℕ) → Answer ℕ → Asked
 ask process costs answer = record { process = process; costs = costs; answer = answer }
 
 -- What is answered on a text to a list of such questions, and what the list says.
-unfoldable pub answersOn : (text : List ℕ) → List Asked → List (Reading ℕ)
+unfoldable pub answersOn : (text : List ℕ) → List Asked → List (Answer ℕ)
 answersOn text asked = map (λ (q : Asked). quoting text (q .costs) (q .process)) asked
 
-unfoldable pub answersIn : List Asked → List (Reading ℕ)
+unfoldable pub answersIn : List Asked → List (Answer ℕ)
 answersIn asked = map (λ (q : Asked). q .answer) asked
 
 -- 10 % of overhead and 5 % of markup, 03E801F4: of processes 2, 3 and 4, of which the last decides a round before the others.

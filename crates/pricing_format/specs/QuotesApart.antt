@@ -3,7 +3,7 @@ use mathlib.Core.List.{List}
 use mathlib.Core.Logic.{_⊎_}
 use mathlib.Core.Path.{_≡_}
 use Prim.Native.Nat.{ℕ, _<_}
-use Rattle.ticket_format.specs.Reading.{Reading, accepted, refused}
+use Rattle.general.specs.Answer.{Answer, accepted, refused}
 use Rattle.answers.specs.CodesApart.{Within, ReadOff, ofTicket}
 use Rattle.pricing_format.specs.Quoting.{quoting}
 use Rattle.pricing_format.specs.OwnQuote.{ownQuote}
@@ -17,7 +17,7 @@ abbrev pub ofState : ℕ → Type 0
 ofState number = (number ≡ 10) ⊎ Within 14 16 number
 
 -- What is read off the number by which a state is answered: 0 where there is a quote, else the refusal, of no line.
-pub record NumberReadOff (answer : Reading ℕ) : Type 0 where
+pub record NumberReadOff (answer : Answer ℕ) : Type 0 where
   pub isQuoted : refusalNumber answer ≡ 0 → (pence : ℕ) × (answer ≡ accepted pence)
   pub isRefused : 0 < refusalNumber answer → (answer ≡ refused (refusalNumber answer) 0) × ofState (refusalNumber answer)
 

@@ -1,14 +1,13 @@
--- What `read_line` and `read_line_by_table` answer, by the line that is answered: the line at the place, with the next one where the reader then stands; or
--- none. Assumes nothing.
+-- What `read_line` answers, by the line that is answered: the line at the place, with the next one where the reader then stands; or none. Assumes nothing.
 use mathlib.Core.List.{List}
 use mathlib.Core.Path.{_≡_, sym, ap, subst, _∙_}
 use Prim.Native.Nat.{ℕ}
-use Rattle.lines.specs.Read.{readAt}
+use Rattle.lines.specs.code.Read.{readAt}
 use Rattle.lines.specs.declared.Cursor.{Cursor}
 use Rattle.lines.specs.declared.LineRead.{LineRead}
 use Rattle.lines.specs.declared.LineRead.the-variants.{Line}
 use Rattle.lines.proofs.Read.{LineAt, read-line}
-use Rattle.reader.specs.Advance.{placeBehind, advanceAt}
+use Rattle.reader.specs.code.Advance.{placeBehind, advanceAt}
 use Rattle.reader.specs.declared.Advance.{Advance}
 
 module _ (text : List ℕ) (at : ℕ) (ahead : Advance) (advanced : ahead ≡ advanceAt text at) where

@@ -1,5 +1,6 @@
--- What the walks by hand have in common: of a call of `new` and of `place_behind`, what is passed, how what is had gives what is asked, and what is known of
--- the result; and how the answer is made of a line and a place. All that is known of the two functions is that they meet their contracts. Assumes nothing.
+-- What the walks by hand rest on: the table's type; how the answer is made of a line and a place; and the calls of `new` and of `place_behind`.
+-- Of a call it is said what is passed, how what is had gives what is asked, and what is known of the result.
+-- All that is known of the two functions is that they meet their contracts. Assumes nothing.
 use mathlib.Core.Path.{_≡_, refl}
 use Prim.Native.Nat.{ℕ, _<_, _^_}
 use mathlib.Core.List.{List, [], _∷_}
@@ -14,9 +15,10 @@ use prog.Wp.{Heap}
 use ghost.Atoms.{Atoms, sem}
 use contract.Monad.{Fun, fact}
 use types.Kit.{Given, ‵, raw, _⊛_, ⋆, _$_, _∵_, !, qed, by, move, use1, use2, split, join, fjoin, frame, done}
-use denote.RattleType.{owns}
+use denote.RattleType.{RattleType, owns}
 use denote.Laws.{Is}
 use denote.Plain.{uint-makes}
+use denote.Array.{Array}
 use denote.Builtin.{u8, usize}
 use denote.Ref.{RefT}
 use denote.Signature.Struct.{makes}
@@ -28,7 +30,7 @@ use denote.Triple.Entry.{Vals, onEntry}
 use denote.Triple.Spec.{tripleOf}
 use denote.Triple.Clauses.{ensured, lasts}
 use Rattle.lines.specs.declared.LineRead.{LineRead}
-use Rattle.reader.specs.Advance.{placeBehind}
+use Rattle.reader.specs.code.Advance.{placeBehind}
 use Rattle.reader.specs.declared.LineReader.{LineReader}
 use Rattle.reader.specs.declared.Advance.{Advance}
 use Rattle.lines.proofs.LineRead as Answer
@@ -36,6 +38,10 @@ use Rattle.lines.proofs.LineRead.Laws as Answer′
 use Rattle.reader.proofs.Advance as Advance
 use Rattle.reader.proofs.new as new
 use Rattle.reader.proofs.place_behind as place-behind
+
+-- the type of the table that is lent
+abbrev pub Table : RattleType
+Table = Array u8 256
 
 -- the answer, and its machine value
 abbrev pub answer : LineRead → ℕ → Advance

@@ -22,13 +22,13 @@ use Rattle.coordinator_laws.proofs.Settled.{none-ends-undecided}
 use Rattle.coordinator_laws.proofs.ReasonsByEnds.{reasons-by-ends}
 use Rattle.tables.specs.declared.InstanceTable.{InstanceTable}
 use Rattle.tables.specs.declared.RunTable.{RunTable}
-use Rattle.tables.specs.InstanceOfTable.{faultFrom, instanceOf}
-use Rattle.tables.specs.RunOfTable.{stateByEnd, runOver}
+use Rattle.tables.specs.code.InstanceOfTable.{faultFrom, instanceOf}
+use Rattle.tables.specs.code.RunOfTable.{stateByEnd, runOver}
 use Rattle.tables.proofs.Places.{fault-at, end-in-table}
 use Rattle.coordinator_run.proofs.TableLimits.{rounds-fit}
-use Rattle.coordinator_reason.specs.ByEnds.{dataReaches, reasonWaiting, reasonEnding, reasonByEnd, rowByEnds, rowsByEnds}
+use Rattle.coordinator_reason.specs.code.ByEnds.{dataReaches, reasonWaiting, reasonEnding, reasonByEnd, rowByEnds, rowsByEnds}
 use Rattle.coordinator_reason.proofs.ByEnds.{by-end-before, by-end-later, by-end-now, data-leaves}
-use Rattle.reasons.specs.Finished.{Finished}
+use Rattle.run_ends.specs.code.Finished.{Finished}
 
 -- Whom the data of a coordinator reach that crashes at the point of a failure line does not depend on how many processes there are and how many commits leave.
 data-by-line : (n p step set count : ℕ) → getsData (reachAt n (pointFrom step set count) p) ≡ dataReaches p step set

@@ -7,7 +7,7 @@ use native.Mathlib.Numerals.{add-one}
 use borrow.Author.Tests.{eq-eqb, ne-eqb}
 use lib.ListN.{length, getD, drop, drop-of-length-le}
 use lib.Seq.{drop-cons}
-use Rattle.replay.specs.Untouched.{untouched}
+use Rattle.replay.specs.code.Untouched.{untouched}
 
 -- All from `from` on is untouched exactly if all from `i` on is.
 module _ (out : List ℕ) (from i : ℕ) (so-far : untouched (drop from out) ≡ untouched (drop i out)) where

@@ -4,11 +4,11 @@
 ghost use mathlib.Core.Path.{_≡_};
 ghost use Prim.Native.Nat.{_+_, _*_, _≤_, min};
 ghost use lib.ListN.{length, take, drop};
-ghost use Rattle.replay.specs.RanIn.{RanIn};
-ghost use Rattle.replay.specs.Untouched.{untouched};
+ghost use Rattle.replay.specs.code.RanIn.{RanIn};
+ghost use Rattle.replay.specs.code.Untouched.{untouched};
+use answers::Reply;
 use lines::Cursor;
 use lines::LineRead;
-use running::RunAnswer;
 
 // The most bytes of a stored ticket: some more than a ticket may have.
 const TICKET_ROOM: usize = 4200;
@@ -55,7 +55,7 @@ fn write_refusal(number: u8, line: u16) {
 }
 
 // Runs the first `size` bytes of a text as a ticket, with the first `room` bytes of a buffer as its output.
-fn run_in(text: &[u8], size: usize, out: &mut [u8], room: usize) -> RunAnswer
+fn run_in(text: &[u8], size: usize, out: &mut [u8], room: usize) -> Reply
     requires { ⌜ size ≤ length (now text) ⌝ }
     requires { ⌜ room ≤ length (now out) ⌝ }
     ensures { λ r. ⌜ RanIn (take size (now (text .entry))) room (now (out .entry)) (now (out .exit)) r ⌝ }
@@ -79,11 +79,12 @@ fn answer(text: &[u8], size: usize, wanted: usize)
     let mut out = [FILLING; OUTPUT_ROOM];
     let ran = run_in(text, size, &mut out, room);
     match ran {
-        RunAnswer::Written(written) => {
+        Reply::Given(size_written) => {
+            let written = size_written as usize;
             write_front(&out, written);
             write_changed(&out, written);
         }
-        RunAnswer::Refused(number, line) => {
+        Reply::Refused(number, line) => {
             write_refusal(number, line);
             write_changed(&out, 0);
         }
@@ -135,8 +136,9 @@ fn replay_line(text: &[u8], at: usize, size: usize) -> bool
     true
 }
 
-// Replays line after line, up to the end or to the first that cannot be replayed.
+// Replays line after line, up to the end or to the first that cannot be replayed. One table of digits serves all lines.
 fn replay(text: &[u8]) {
+    let values = digits::digit_table();
     let mut here = Cursor { at: 0 };
     while here.at < text.len() {
         let at = here.at;
@@ -145,7 +147,7 @@ fn replay(text: &[u8]) {
             head,
             tail,
             next,
-        } = here.read(text)
+        } = here.read(&values, text)
         else {
             return;
         };

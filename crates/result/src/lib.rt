@@ -4,7 +4,8 @@ ghost use mathlib.Core.Path.{_≡_};
 ghost use mathlib.Core.List.{_++_};
 ghost use Prim.Native.Nat.{_*_, _≤_};
 ghost use lib.ListN.{length, take, drop};
-ghost use Rattle.tables.specs.RunOfTable.{statesOver, runOver};
+ghost use Rattle.tables.specs.code.RunOfTable.{statesOver, runFrom};
+use tables::RunTable;
 ghost use Rattle.answers.specs.ResultLine.{processLineSize, processLines, resultLines, resultSize, refusalLine, refusalLineSize};
 
 // The lengths of the lines: two digits for each byte, and 0A.
@@ -53,31 +54,38 @@ fn put_process_lines<'a>(
     }
 }
 
-// The whole result of a run of n processes, f of which crashed: what the run's table says of each process, what each sent, and what the run has counted.
+// The whole result of a run of n processes, f of which crashed: what the run's table says, and what each process sent.
 pub fn write_result<'a>(
     out: &mut [u8],
     n: u8,
-    ends: &'a [u8; 64],
-    end_rounds: &'a [u8; 64],
-    values: &'a [u32; 64],
+    table: RunTable,
+    f: u8,
     data_by: &'a [u8; 64],
     commits_by: &'a [u8; 64],
-    rounds: u8,
-    f: u8,
-    speakers: u8,
-    data_sent: u16,
-    commits_sent: u16,
 )
-    requires { ⌜ (n ≤ 64) × (n ≤ length (now ends)) × (resultSize n ≤ length (now out)) ⌝ }
+    requires { ⌜ (n ≤ 64) × (resultSize n ≤ length (now out)) ⌝ }
     ensures { λ r. ⌜ now (out .exit)
-        ≡ resultLines (runOver n (now (ends .entry)) (now («end_rounds» .entry)) (now (values .entry)) rounds speakers «data_sent» «commits_sent»)
-        (take n (now («data_by» .entry))) (take n (now («commits_by» .entry))) f
+        ≡ resultLines (runFrom n table) (take n (now («data_by» .entry))) (take n (now («commits_by» .entry))) f
         ++ drop (resultSize n) (now (out .entry)) ⌝ }
 {
     let count = n as usize;
-    put_process_lines(out, count, ends, end_rounds, values, data_by, commits_by);
+    put_process_lines(
+        out,
+        count,
+        &table.ends,
+        &table.end_rounds,
+        &table.values,
+        data_by,
+        commits_by,
+    );
     let at = PROCESS_LINE_SIZE * count;
-    let line = result_lines::last_bytes(rounds, f, speakers, data_sent, commits_sent);
+    let line = result_lines::last_bytes(
+        table.rounds,
+        f,
+        table.speakers,
+        table.data_sent,
+        table.commits_sent,
+    );
     hex::put_line(&mut out[at..], &line);
 }
 

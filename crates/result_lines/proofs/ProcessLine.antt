@@ -4,7 +4,7 @@ use mathlib.Core.Path.{_≡_}
 use Prim.Native.Nat.{ℕ}
 use borrow.Author.Tests.{ne-eqb}
 use Rattle.general.specs.BigEndian.{bytesOf}
-use Rattle.tables.specs.RunOfTable.{stateByEnd}
+use Rattle.tables.specs.code.RunOfTable.{stateByEnd}
 use Rattle.answers.specs.ResultLine.{endBytes}
 
 -- What `process_bytes` returns, by the process's end; `sent` are the messages that it sent.

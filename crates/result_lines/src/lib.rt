@@ -2,7 +2,7 @@
 ghost use mathlib.Core.Path.{_≡_};
 ghost use mathlib.Core.List.{[], _∷_, _++_};
 ghost use Rattle.general.specs.BigEndian.{bytesOf};
-ghost use Rattle.tables.specs.RunOfTable.{stateByEnd};
+ghost use Rattle.tables.specs.code.RunOfTable.{stateByEnd};
 ghost use Rattle.answers.specs.ResultLine.{endBytes};
 
 // The kinds of the lines: a process's, the last one, and a refusal's.

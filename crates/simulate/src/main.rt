@@ -7,8 +7,8 @@ ghost use lib.ListN.{length, take};
 ghost use Rattle.answers.specs.ResultLine.{resultSize};
 ghost use Rattle.answers.specs.Running.{programWrites};
 ghost use Rattle.ticket_format.specs.Ticket.{ticketLimit};
-ghost use Rattle.simulate.specs.Input.{Within};
-use running::RunAnswer;
+ghost use Rattle.simulate.specs.code.Input.{Within};
+use answers::Reply;
 
 // Room for a ticket and one byte more (document 01: at most 4,096 bytes), and for the result of 64 processes.
 const TICKET_ROOM: usize = 4097;
@@ -61,8 +61,8 @@ fn answer_text(text: &[u8], out: &mut [u8]) -> usize
 {
     let ran = running::run_ticket(text, out);
     match ran {
-        RunAnswer::Written(size) => size,
-        RunAnswer::Refused(number, line) => {
+        Reply::Given(size) => size as usize,
+        Reply::Refused(number, line) => {
             result::put_refusal(out, number, line);
             result::REFUSAL_LINE_SIZE
         }

@@ -12,8 +12,8 @@ use Rattle.consensus.specs.State.{crashed, stateOf}
 use Rattle.coordinator.specs.Run.{Run, runOf, endOf}
 use Rattle.tables.specs.declared.InstanceTable.{InstanceTable}
 use Rattle.tables.specs.declared.RunTable.{RunTable}
-use Rattle.tables.specs.InstanceOfTable.{faultFrom, faultIn, instanceOf}
-use Rattle.tables.specs.RunOfTable.{stateByEnd, stateOver, statesOver, runOver, runFrom}
+use Rattle.tables.specs.code.InstanceOfTable.{faultFrom, faultIn, instanceOf}
+use Rattle.tables.specs.code.RunOfTable.{stateByEnd, stateOver, statesOver, runOver, runFrom}
 
 -- How many processes a table has, and how many may crash.
 pub processes-of : (x : InstanceTable) → instanceOf x .processes ≡ x .n

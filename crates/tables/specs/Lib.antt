@@ -1,3 +1,1 @@
-pub mod InstanceOfTable
-pub mod RunOfTable
-pub mod InitialTable
+pub mod code

@@ -3,7 +3,7 @@
 // specs/ says which instance and which run a table stands for.
 ghost use mathlib.Core.Path.{_≡_};
 ghost use Prim.Native.Nat.{_≤_};
-ghost use Rattle.tables.specs.InitialTable.{initialTable};
+ghost use Rattle.tables.specs.code.InitialTable.{initialTable};
 
 // What a ticket describes. A process is correct where its crash round is 0; `reached` has the sets of step 01, and `counts` the counts of step 02.
 pub struct InstanceTable {

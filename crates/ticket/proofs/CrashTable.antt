@@ -8,7 +8,7 @@ use lib.Seq.{getD-set-same, getD-set-other, ext-getD}
 use borrow.Author.Tests.{ne-eqb}
 use Rattle.general.proofs.Tests.{by-equal}
 use Rattle.consensus.specs.Instance.{Fault, correct, faultOf}
-use Rattle.tables.specs.InstanceOfTable.{faultFrom, instanceOf}
+use Rattle.tables.specs.code.InstanceOfTable.{faultFrom, instanceOf}
 use Rattle.tables.specs.declared.InstanceTable.{InstanceTable}
 use Rattle.tables.proofs.Places.{length-pattern, fault-at}
 use Rattle.ticket_format.specs.declared.FailureLine.{FailureLine}

@@ -1,7 +1,7 @@
 -- What a line says suits the place where it stands: a proposal the next of them, a failure line a process and a round. Assumes nothing.
 use mathlib.Core.List.{List}
 use mathlib.Core.Path.{_≡_, refl}
-use Prim.Native.Nat.{ℕ, _≤_}
+use Prim.Native.Nat.{ℕ, suc, _≤_, _<_}
 use Rattle.ticket_format.specs.Says.{afterProposal, lineSays}
 use Rattle.ticket_format.specs.declared.FailureLine.{FailureLine}
 use Rattle.ticket_format.specs.declared.Place.{Place}
@@ -19,6 +19,8 @@ pub record CrashFits (place : Place) (n lines : ℕ) (l : FailureLine) : Type 0 
   pub before : ℕ
   pub station : ℕ
   pub at : place ≡ Failures before station
+  pub counted : lines ≡ suc before
+  pub rising : station < l .process
 
 unfoldable pub Fits : Place → ℕ → LineAnswer → Type 0
 Fits place n (Proposal count v to) = (place ≡ Proposals count) × (to ≡ afterProposal n count)
@@ -34,6 +36,15 @@ line-fits n t place b = by-case (line-case n t b place)
     by-case (proposalSaid kind station) = (refl, refl)
     by-case (crashSaid {lines} {last} passes) =
         let placed = crash-placed n t last _ (passes .placed) in
-        record { first = placed .process-from-1; last = placed .process-to-n; round = placed .round-from-1; before = lines; station = last; at = refl }
+        record {
+          first = placed .process-from-1;
+          last = placed .process-to-n;
+          round = placed .round-from-1;
+          before = lines;
+          station = last;
+          at = refl;
+          counted = refl;
+          rising = placed .process-rises;
+        }
     by-case (endSaid {lines} {last} kind) = (lines, last, refl)
     by-case (lineRefused refusal wrong) = tt

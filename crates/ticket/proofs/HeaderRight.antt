@@ -1,54 +1,54 @@
--- What the answer to the header means for the ticket: its refusal, or what is still to be read. Assumes nothing.
+-- What the answer to the first line means for the text: its refusal, or what is still to be read. Assumes nothing.
 use mathlib.Core.List.{List}
 use mathlib.Core.Path.{_≡_, refl, ap, _∙_}
 use mathlib.Core.Bool.{Bool, true, false, cond}
 use Prim.Native.Nat.{ℕ, _≤_, _<_}
 use native.Mathlib.Omega.{arith}
-use borrow.Author.Tests.{ltb-true, ltb-false, eqb-true, eqb-false, lt-ltb, le-ltb}
-use lib.Dec.{eqb, ltb}
+use borrow.Author.Tests.{eqb-true, eqb-false}
+use lib.Dec.{eqb}
 use lib.ListN.{length, getD, drop}
 use Rattle.consensus.specs.Instance.{withinLimits}
 use Rattle.text.specs.Line.{linesOf}
-use Rattle.ticket_format.specs.Reading.{refused, proceed, readFrom}
+use Rattle.general.specs.Answer.{refused}
+use Rattle.ticket_format.specs.Reading.{proceed, readFrom}
 use Rattle.ticket_format.specs.Says.{headerSays}
 use Rattle.ticket_format.specs.Accept.{header, begin, accept}
-use Rattle.ticket_format.specs.Ticket.{ticketLimit, atEnd, readTicket}
+use Rattle.ticket_format.specs.Ticket.{atEnd, readLines}
 use Rattle.ticket_format.specs.declared.HeaderAnswer.{HeaderAnswer}
 use Rattle.ticket_format.proofs.LineCases.{HeaderCase, limitsSaid, headerRefused, header-case}
-use Rattle.lines.specs.Words.{lineBytes}
-use Rattle.lines.specs.Read.{readAt}
+use Rattle.lines.specs.code.Words.{lineBytes}
+use Rattle.lines.specs.code.Read.{readAt}
 use Rattle.lines.specs.declared.Cursor.{Cursor}
 use Rattle.lines.specs.declared.LineRead.{LineRead}
 use Rattle.lines.specs.declared.LineRead.the-variants.{Line, NoLine}
 use Rattle.lines.proofs.Read.{LineAt, read-line, read-no-line, lines-at-end}
 use Rattle.ticket_lines.proofs.Whole.{header-words}
-use Rattle.ticket.specs.Header.{AfterHeader, withPlace, firstRead, headerOf}
+use Rattle.ticket.specs.code.FirstLine.{withPlace, firstRead, firstOf, restOf}
+use Rattle.ticket.specs.declared.Header.{Header}
 use Rattle.ticket.specs.declared.HeaderRead.{HeaderRead}
-use Rattle.ticket.specs.declared.HeaderRead.the-variants.{Limits, Refused}
+use Rattle.ticket.specs.declared.HeaderRead.the-variants.{Refused}
 
--- What a ticket is whose header is answered so.
-abbrev pub HeaderReads : List ℕ → HeaderRead → Type 0
-HeaderReads text (Limits n t at) = AfterHeader text n t at
-HeaderReads text (Refused number line) = readTicket text ≡ refused number line
+-- What is left of a text after its header is read on at line 2.
+pub record AfterHeader (text : List ℕ) (said : Header) : Type 0 where
+  pub inside : said .at ≤ length text
+  pub limits : withinLimits (said .n) (said .t) ≡ true
+  pub same : readLines text ≡ restOf text said
 
-too-long : (text : List ℕ) → ticketLimit < length text → readTicket text ≡ refused 1 0
-unfolding readTicket
-too-long text h = rw (lt-ltb ticketLimit (length text) h)
+-- What a text is whose first line is answered so.
+abbrev pub FirstReads : List ℕ → HeaderRead → Type 0
+FirstReads text (HeaderRead.Header said) = AfterHeader text said
+FirstReads text (Refused number line) = readLines text ≡ refused number line
 
-module _ (text : List ℕ) (short : length text ≤ ticketLimit) where
-  whole : readTicket text ≡ readFrom accept atEnd header 1 (linesOf text)
-  unfolding readTicket
-  whole = rw (le-ltb ticketLimit (length text) short)
-
-  no-text : length text ≡ 0 → readTicket text ≡ refused 3 1
+module _ (text : List ℕ) where
+  no-text : length text ≡ 0 → readLines text ≡ refused 3 1
   unfolding readFrom atEnd
-  no-text h = whole ∙ ap (readFrom accept atEnd header 1) (lines-at-end text 0 (omega arith))
+  no-text h = ap (readFrom accept atEnd header 1) (lines-at-end text 0 (omega arith))
 
-  no-header : 0 < length text → readAt text 0 ≡ NoLine → readTicket text ≡ refused 2 1
+  no-header : 0 < length text → readAt text 0 ≡ NoLine → readLines text ≡ refused 2 1
   unfolding readFrom
   no-header h e =
       let rest = read-no-line text 0 e h in
-      whole ∙ ap (readFrom accept atEnd header 1) (rest .1)
+      ap (readFrom accept atEnd header 1) (rest .1)
 
   -- A line of bytes, and the answer to it.
   module _ (size head tail : ℕ) (next : Cursor) (line : LineAt text 0 size head tail next)
@@ -56,9 +56,9 @@ module _ (text : List ℕ) (short : length text ≤ ticketLimit) where
     says : answer ≡ headerSays (line .said)
     says = given ∙ header-words (line .said) (line .each) size head tail (line .sized) (line .upper) (line .lower)
 
-    proceeds : readTicket text ≡ proceed (begin answer) 1 (λ s. readFrom accept atEnd s 2 (linesOf (drop (next .at) text)))
+    proceeds : readLines text ≡ proceed (begin answer) 1 (λ s. readFrom accept atEnd s 2 (linesOf (drop (next .at) text)))
     unfolding readFrom accept
-    proceeds = rw says (whole ∙ ap (readFrom accept atEnd header 1) (line .lines))
+    proceeds = rw says (ap (readFrom accept atEnd header 1) (line .lines))
 
     within : {n t : ℕ} → HeaderAnswer.Limits n t ≡ headerSays (line .said) → withinLimits n t ≡ true
     within {n} {t} e = by-case (header-case (line .said)) e
@@ -71,33 +71,26 @@ module _ (text : List ℕ) (short : length text ≤ ticketLimit) where
         by-case (headerRefused refusal wrong) h = absurd (let z : _≡_ {A = ℕ} 0 1 = cc in let f : ⊥ = omega arith in f)
 
   line-right : (size head tail : ℕ) (next : Cursor) → LineAt text 0 size head tail next
-      → (answer : HeaderAnswer) → answer ≡ headerSays (lineBytes size head tail) → HeaderReads text (withPlace answer (next .at))
+      → (answer : HeaderAnswer) → answer ≡ headerSays (lineBytes size head tail) → FirstReads text (withPlace answer (next .at))
   unfolding withPlace proceed begin
   line-right size head tail next line (HeaderAnswer.Limits n t) given =
       let answer = HeaderAnswer.Limits n t in
       record {
-        short = short;
-        behind = omega (arith, line .after);
         inside = line .inside;
         limits = within size head tail next line answer given (says size head tail next line answer given);
         same = proceeds size head tail next line answer given;
       }
   line-right size head tail next line (HeaderAnswer.Refused number) given = proceeds size head tail next line (HeaderAnswer.Refused number) given
 
-  first-right : 0 < length text → (line : LineRead) → readAt text 0 ≡ line → HeaderReads text (firstRead line)
+  first-right : 0 < length text → (line : LineRead) → readAt text 0 ≡ line → FirstReads text (firstRead line)
   unfolding firstRead
   first-right some NoLine e = no-header some e
   first-right some (Line size head tail next) e = line-right size head tail next (read-line text 0 size head tail next e) _ refl
 
-  by-empty : (empty : Bool) → eqb (length text) 0 ≡ empty → HeaderReads text (cond empty (Refused 3 1) (firstRead (readAt text 0)))
+  by-empty : (empty : Bool) → eqb (length text) 0 ≡ empty → FirstReads text (cond empty (Refused 3 1) (firstRead (readAt text 0)))
   by-empty true e = no-text (eqb-true (length text) 0 e)
   by-empty false e = let ne = eqb-false (length text) 0 e in first-right (omega arith) (readAt text 0) refl
 
-by-size : (text : List ℕ) (long : Bool) → ltb ticketLimit (length text) ≡ long
-    → HeaderReads text (cond long (Refused 1 0) (cond (eqb (length text) 0) (Refused 3 1) (firstRead (readAt text 0))))
-by-size text true e = too-long text (ltb-true ticketLimit (length text) e)
-by-size text false e = by-empty text (ltb-false ticketLimit (length text) e) (eqb (length text) 0) refl
-
-pub header-right : (text : List ℕ) → HeaderReads text (headerOf text)
-unfolding headerOf
-header-right text = by-size text (ltb ticketLimit (length text)) refl
+  pub first-reads : FirstReads text (firstOf text)
+  unfolding firstOf
+  first-reads = by-empty (eqb (length text) 0) refl

@@ -8,69 +8,77 @@ use mathlib.Core.Bool.{Bool, true, false, cond}
 use borrow.Author.Tests.{eqb-false}
 use lib.Dec.{eqb}
 use lib.ListN.{length, drop, length-set}
-use Rattle.consensus.specs.Instance.{Instance}
+use Rattle.consensus.specs.Instance.{Instance, withinLimits}
 use Rattle.consensus.proofs.Limits.{limits-hold}
-use Rattle.tables.specs.InstanceOfTable.{instanceOf, tableOf, emptyTable}
+use Rattle.tables.specs.code.InstanceOfTable.{instanceOf, tableOf, emptyTable}
 use Rattle.tables.specs.declared.InstanceTable.{InstanceTable}
 use Rattle.text.specs.Line.{linesOf}
-use Rattle.ticket_format.specs.Reading.{refused, proceed, readFrom}
+use Rattle.general.specs.Answer.{Answer, refused}
+use Rattle.ticket_format.specs.Reading.{proceed, readFrom}
 use Rattle.ticket_format.specs.Says.{afterProposal, lineSays}
 use Rattle.ticket_format.specs.Accept.{withProposal, withCrash, store, accept}
-use Rattle.ticket_format.specs.Ticket.{ticketLimit, atEnd, readTicket}
+use Rattle.ticket_format.specs.Ticket.{atEnd}
 use Rattle.ticket_format.specs.declared.FailureLine.{FailureLine}
 use Rattle.ticket_format.specs.declared.Place.{Place}
 use Rattle.ticket_format.specs.declared.Place.the-variants.{Proposals, Failures, Ended}
 use Rattle.ticket_format.specs.declared.LineAnswer.{LineAnswer}
 use Rattle.ticket_format.specs.declared.LineAnswer.the-variants.{Proposal, Crash, End, Refused}
-use Rattle.lines.specs.Words.{lineBytes}
-use Rattle.lines.specs.Read.{readAt}
+use Rattle.lines.specs.code.Words.{lineBytes}
+use Rattle.lines.specs.code.Read.{readAt}
 use Rattle.lines.specs.declared.Cursor.{Cursor}
 use Rattle.lines.specs.declared.LineRead.the-variants.{NoLine}
 use Rattle.lines.proofs.Read.{LineAt, read-no-line, lines-at-end}
-use Rattle.ticket_lines.specs.Places.{HasPlaces}
+use Rattle.ticket_lines.specs.code.Places.{HasPlaces}
 use Rattle.ticket_lines.proofs.Whole.{line-words}
-use Rattle.ticket.specs.Header.{AfterHeader}
-use Rattle.ticket.specs.Answer.{readingFrom}
+use Rattle.ticket.specs.code.Answer.{endAnswer, readingOf}
+use Rattle.ticket.specs.code.FirstLine.{restOf}
+use Rattle.ticket.specs.declared.Header.{Header}
 use Rattle.ticket.specs.declared.TicketAnswer.{TicketAnswer}
 use Rattle.ticket.proofs.Stage.{soFar, stageOf}
-use Rattle.ticket.specs.Progress.{endAnswer}
 use Rattle.ticket.proofs.CrashTable.{stored, Full, full-roomy, full-stored, crash-stored}
 use Rattle.ticket.proofs.Stored.{withValue, none-so-far, proposal-so-far}
 use Rattle.ticket.proofs.Fitting.{CrashFits, Fits, line-fits}
 
+-- How far the lines have been counted at a place: at most 64 proposals and 64 failure lines.
+unfoldable pub Counted : Place → (k : ℕ) → Type 0
+Counted (Proposals count) k = k ≤ 2 + count
+Counted (Failures lines last) k = (k ≤ 66 + lines) × (lines ≤ last) × (last ≤ 64)
+Counted Ended k = k ≤ 131
+
 -- The reading stands at line k, which begins at `at`: what is left is read on from here.
-pub record Reached (text : List ℕ) (table : InstanceTable) (at : ℕ) (place : Place) (k : ℕ) : Type 0 where
-  pub short : length text ≤ ticketLimit
+pub record Reached (whole : Answer Instance) (text : List ℕ) (table : InstanceTable) (at : ℕ) (place : Place) (k : ℕ) : Type 0 where
   pub inside : at ≤ length text
-  pub counted : k ≤ at + 1
+  pub counted : Counted place k
   pub full : Full table
   pub few : table .n ≤ 64
   pub places : HasPlaces place (table .n)
-  pub same : readTicket text ≡ readFrom accept atEnd (stageOf place table) k (linesOf (drop at text))
+  pub same : whole ≡ readFrom accept atEnd (stageOf place table) k (linesOf (drop at text))
 
 -- The same arrays at the same place.
-pub same-place : {text : List ℕ} {n t at k : ℕ} {values rounds steps sets counts values′ rounds′ steps′ sets′ counts′ : List ℕ} {place to : Place}
+pub same-place : {whole : Answer Instance} {text : List ℕ} {n t at k : ℕ}
+    {values rounds steps sets counts values′ rounds′ steps′ sets′ counts′ : List ℕ} {place to : Place}
     → values ≡ values′ → rounds ≡ rounds′ → steps ≡ steps′ → sets ≡ sets′ → counts ≡ counts′ → place ≡ to
-    → Reached text (tableOf n t values′ rounds′ steps′ sets′ counts′) at to k → Reached text (tableOf n t values rounds steps sets counts) at place k
+    → Reached whole text (tableOf n t values′ rounds′ steps′ sets′ counts′) at to k → Reached whole text (tableOf n t values rounds steps sets counts) at place k
 same-place v r s m c p h = rw (v, r, s, m, c, p) h
 
-pub reached-start : (text : List ℕ) (n t at : ℕ) → AfterHeader text n t at → (table : InstanceTable) → table ≡ emptyTable n t
-    → Reached text table at (Proposals 0) 2
-unfolding HasPlaces
-reached-start text n t at header table e =
-    let limits = limits-hold n t (header .limits) in
+pub reached-start : (text : List ℕ) (said : Header) → withinLimits (said .n) (said .t) ≡ true → said .at ≤ length text
+    → (table : InstanceTable) → table ≡ emptyTable (said .n) (said .t) → Reached (restOf text said) text table (said .at) (Proposals 0) 2
+unfolding HasPlaces Counted
+reached-start text said within inside table e =
+    let limits = limits-hold (said .n) (said .t) within in
     rw e record {
-      short = header .short;
-      inside = header .inside;
-      counted = omega (arith, header .behind);
+      inside = inside;
+      counted = omega arith;
       full = record { all-values = refl; all-crash-rounds = refl; all-steps = refl; all-reached = refl; all-counts = refl };
       few = limits .at-most-64;
       places = (omega (arith, limits .some-process), limits .at-most-64);
-      same = rw (none-so-far (emptyTable n t) refl (limits .at-most-64)) (header .same);
+      same = rw (none-so-far (emptyTable (said .n) (said .t)) refl (limits .at-most-64)) refl;
     }
 
 -- What a text that is over is answered with.
-end-reading : (place : Place) (table : InstanceTable) (k : ℕ) → readingFrom (endAnswer place k) table ≡ atEnd (stageOf place table) k
+end-reading : (place : Place) (table : InstanceTable) (k : ℕ)
+    → readingOf (endAnswer place k (table .n) (table .t)) (table .values) (table .«crash_rounds») (table .steps) (table .reached) (table .counts)
+    ≡ atEnd (stageOf place table) k
 unfolding endAnswer atEnd soFar
 end-reading (Proposals count) table k = refl
 end-reading (Failures lines last) table k = refl
@@ -92,13 +100,29 @@ places-after n count left few false e =
     let other : suc count ≡ n → ⊥ = eqb-false (suc count) n e in
     (omega (arith, other), few)
 
-module _ (text : List ℕ) (table : InstanceTable) (at : ℕ) (place : Place) (k : ℕ) (here : Reached text table at place k) where
-  pub reached-end : length text ≤ at → (answer : TicketAnswer) → answer ≡ endAnswer place k → readingFrom answer table ≡ readTicket text
+-- An accepted text has at most 131 lines.
+pub few-lines : (place : Place) (n k : ℕ) → HasPlaces place n → Counted place k → k ≤ 131
+unfolding HasPlaces Counted
+few-lines (Proposals count) n k places counted = omega (arith, places, counted)
+few-lines (Failures lines last) n k places counted = omega (arith, counted)
+few-lines Ended n k places counted = counted
+
+-- The count after a proposal.
+counted-after : (n count k : ℕ) → count < n → n ≤ 64 → k ≤ 2 + count → (last : Bool) → eqb (suc count) n ≡ last
+    → Counted (cond last (Failures 0 0) (Proposals (suc count))) (k + 1)
+unfolding Counted
+counted-after n count k left few counted true e = (omega arith, omega arith, omega arith)
+counted-after n count k left few counted false e = omega arith
+
+module _ (whole : Answer Instance) (text : List ℕ) (table : InstanceTable) (at : ℕ) (place : Place) (k : ℕ)
+    (here : Reached whole text table at place k) where
+  pub reached-end : length text ≤ at → (answer : TicketAnswer) → answer ≡ endAnswer place k (table .n) (table .t)
+      → readingOf answer (table .values) (table .«crash_rounds») (table .steps) (table .reached) (table .counts) ≡ whole
   unfolding readFrom
   reached-end h answer e =
       rw e (end-reading place table k) ∙ sym (here .same ∙ ap (readFrom accept atEnd (stageOf place table) k) (lines-at-end text at h))
 
-  pub reached-no-line : at < length text → NoLine ≡ readAt text at → refused 2 k ≡ readTicket text
+  pub reached-no-line : at < length text → NoLine ≡ readAt text at → refused 2 k ≡ whole
   unfolding readFrom
   reached-no-line h e =
       let rest = read-no-line text at (sym e) h in
@@ -115,7 +139,7 @@ module _ (text : List ℕ) (table : InstanceTable) (at : ℕ) (place : Place) (k
 
     -- What the line says is stored.
     stores : (said : LineAnswer) → answer ≡ said
-        → readTicket text ≡ proceed (store (soFar place table) said) k (λ s. readFrom accept atEnd s (suc k) (linesOf (drop (then .at) text)))
+        → whole ≡ proceed (store (soFar place table) said) k (λ s. readFrom accept atEnd s (suc k) (linesOf (drop (then .at) text)))
     unfolding readFrom accept
     stores said e =
         let x = soFar place table in
@@ -123,13 +147,12 @@ module _ (text : List ℕ) (table : InstanceTable) (at : ℕ) (place : Place) (k
         here .same ∙ ap (readFrom accept atEnd (stageOf place table) k) (line .lines) ∙ rw at-stage
 
     -- Where the line leads.
-    goes-on : (to : Place) (after : InstanceTable) → after .n ≡ table .n → Full after → HasPlaces to (table .n)
-        → readTicket text ≡ readFrom accept atEnd (stageOf to after) (suc k) (linesOf (drop (then .at) text)) → Reached text after (then .at) to (k + 1)
-    goes-on to after same-n g places same =
+    goes-on : (to : Place) (after : InstanceTable) → after .n ≡ table .n → Full after → HasPlaces to (table .n) → Counted to (k + 1)
+        → whole ≡ readFrom accept atEnd (stageOf to after) (suc k) (linesOf (drop (then .at) text)) → Reached whole text after (then .at) to (k + 1)
+    goes-on to after same-n g places counted same =
         record {
-          short = here .short;
           inside = line .inside;
-          counted = omega (arith, line .after, line .some, here .counted);
+          counted = counted;
           full = g;
           few = omega (arith, here .few);
           places = rw same-n places;
@@ -141,6 +164,14 @@ module _ (text : List ℕ) (table : InstanceTable) (at : ℕ) (place : Place) (k
     unfolding HasPlaces
     proposals-here e = subst (λ (p : Place). HasPlaces p (table .n)) e (here .places)
 
+    counted-proposals : {count : ℕ} → place ≡ Proposals count → k ≤ 2 + count
+    unfolding Counted
+    counted-proposals e = subst (λ (p : Place). Counted p k) e (here .counted)
+
+    counted-failures : {lines last : ℕ} → place ≡ Failures lines last → (k ≤ 66 + lines) × (lines ≤ last) × (last ≤ 64)
+    unfolding Counted
+    counted-failures e = subst (λ (p : Place). Counted p k) e (here .counted)
+
     pub proposal-place : {count v : ℕ} {to : Place} → answer ≡ Proposal count v to → count < 64
     unfolding Fits
     proposal-place e = let known = proposals-here (fits _ e .0) in omega (arith, known)
@@ -149,7 +180,7 @@ module _ (text : List ℕ) (table : InstanceTable) (at : ℕ) (place : Place) (k
     unfolding Fits
     crash-place e = fits _ e
 
-    pub reached-refused : {number : ℕ} → answer ≡ Refused number → refused number k ≡ readTicket text
+    pub reached-refused : {number : ℕ} → answer ≡ Refused number → refused number k ≡ whole
     unfolding proceed store
     reached-refused e = sym (stores _ e)
 
@@ -164,7 +195,7 @@ module _ (text : List ℕ) (table : InstanceTable) (at : ℕ) (place : Place) (k
           all-counts = f .all-counts;
         }
 
-    pub reached-proposal : {count v : ℕ} {to : Place} → answer ≡ Proposal count v to → Reached text (withValue table count v) (then .at) to (k + 1)
+    pub reached-proposal : {count v : ℕ} {to : Place} → answer ≡ Proposal count v to → Reached whole text (withValue table count v) (then .at) to (k + 1)
     unfolding Fits proceed store afterProposal
     reached-proposal {count} {v} {to} e =
         let (now, next) = fits _ e in
@@ -172,6 +203,7 @@ module _ (text : List ℕ) (table : InstanceTable) (at : ℕ) (place : Place) (k
         let inside : count < length (table .values) = omega (arith, here .full .all-values) in
         let described : soFar to (withValue table count v) ≡ withProposal (soFar place table) v = rw (now, next) (proposal-so-far table count v inside) in
         goes-on to (withValue table count v) refl (full-value count v) (rw next (places-after (table .n) count left few (eqb (suc count) (table .n)) refl))
+        (rw next (counted-after (table .n) count k left few (counted-proposals now) (eqb (suc count) (table .n)) refl))
         (stores _ e ∙ rw described refl)
 
     -- Among the failure lines the table is whole.
@@ -179,16 +211,21 @@ module _ (text : List ℕ) (table : InstanceTable) (at : ℕ) (place : Place) (k
     unfolding soFar
     whole-table e = rw e refl
 
-    pub reached-crash : {lines : ℕ} {l : FailureLine} → answer ≡ Crash lines l → Reached text (stored table l) (then .at) (Failures lines (l .process)) (k + 1)
-    unfolding proceed store HasPlaces soFar
+    pub reached-crash : {lines : ℕ} {l : FailureLine} → answer ≡ Crash lines l → Reached whole text (stored table l) (then .at) (Failures lines (l .process)) (k + 1)
+    unfolding proceed store HasPlaces Counted soFar
     reached-crash {lines} {l} e =
         let fit = crash-place e in
         let after = crash-stored table l (full-roomy table (here .full) (here .few)) (fit .first) (fit .last) (fit .round) in
         let to = Failures lines (l .process) in
         let whole = sym (whole-table (fit .at)) in
         let described : soFar to (stored table l) ≡ withCrash (soFar place table) l = after ∙ ap (λ (x : Instance). withCrash x l) whole in
-        goes-on to (stored table l) refl (full-stored table l (here .full)) (here .few) (stores _ e ∙ rw (sym described) refl)
+        let (counted, before, last) = counted-failures (fit .at) in
+        let few : (k + 1 ≤ 66 + lines) × (lines ≤ l .process) × (l .process ≤ 64) =
+        (omega (arith, fit .counted), omega (arith, fit .counted, fit .rising), omega (arith, fit .last, here .few)) in
+        goes-on to (stored table l) refl (full-stored table l (here .full)) (here .few) few (stores _ e ∙ rw (sym described) refl)
 
-    pub reached-ended : answer ≡ End → Reached text table (then .at) Ended (k + 1)
-    unfolding Fits proceed store HasPlaces soFar
-    reached-ended e = goes-on Ended table refl (here .full) tt (stores _ e ∙ rw (whole-table (fits _ e .2)) refl)
+    pub reached-ended : answer ≡ End → Reached whole text table (then .at) Ended (k + 1)
+    unfolding Fits proceed store HasPlaces Counted soFar
+    reached-ended e =
+        let among = fits _ e .2 in
+        goes-on Ended table refl (here .full) tt (omega (arith, counted-failures among)) (stores _ e ∙ rw (whole-table among) refl)

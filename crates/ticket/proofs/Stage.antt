@@ -1,7 +1,7 @@
 -- The stage of a ticket that its place and the arrays filled so far stand for. Assumes nothing.
 use lib.ListN.{take}
 use Rattle.consensus.specs.Instance.{Instance}
-use Rattle.tables.specs.InstanceOfTable.{instanceOf}
+use Rattle.tables.specs.code.InstanceOfTable.{instanceOf}
 use Rattle.tables.specs.declared.InstanceTable.{InstanceTable}
 use Rattle.ticket_format.specs.Accept.{Stage, body}
 use Rattle.ticket_format.specs.declared.Place.{Place}

@@ -10,7 +10,7 @@ use borrow.Author.Tests.{eqb-true}
 use Rattle.general.specs.Indexed.{mapFrom}
 use Rattle.general.proofs.Lists.{take-replicate}
 use Rattle.consensus.specs.Instance.{Fault, correct}
-use Rattle.tables.specs.InstanceOfTable.{faultFrom, faultIn, instanceOf}
+use Rattle.tables.specs.code.InstanceOfTable.{faultFrom, faultIn, instanceOf}
 use Rattle.tables.specs.declared.InstanceTable.{InstanceTable}
 use Rattle.ticket_format.specs.Says.{afterProposal}
 use Rattle.ticket_format.specs.Accept.{unproposed, withProposal}

@@ -1,3 +1,1 @@
-pub mod Answer
-pub mod Header
-pub mod Progress
+pub mod code

@@ -1,51 +1,51 @@
 // Reading a ticket (document 01, 'The ticket'): from any bytes to an instance or a refusal.
 use lines::LineRead;
-use tables::InstanceTable;
 use ticket_format::HeaderAnswer;
 use ticket_format::LineAnswer;
 use ticket_format::Place;
 ghost use mathlib.Core.Path.{_≡_};
-ghost use Rattle.tables.specs.InstanceOfTable.{emptyTable, tableOf};
+ghost use mathlib.Core.Bool.{true};
+ghost use Prim.Native.Nat.{_≤_};
+ghost use lib.ListN.{length};
+ghost use Rattle.consensus.specs.Instance.{withinLimits};
+ghost use Rattle.text.specs.Digit.{digitTable};
+ghost use Rattle.tables.specs.code.InstanceOfTable.{emptyTable, tableOf};
 ghost use Rattle.ticket_format.specs.Ticket.{readTicket};
-ghost use Rattle.ticket.specs.Progress.{endAnswer};
-ghost use Rattle.ticket.specs.Answer.{readingFrom, readingOf};
-ghost use Rattle.ticket.specs.declared.TicketAnswer.{TicketAnswer};
-ghost use Rattle.ticket.specs.Header.{AfterHeader, headerOf};
+ghost use Rattle.ticket.specs.code.Answer.{endAnswer, readingOf};
+ghost use Rattle.ticket.specs.code.FirstLine.{firstOf, restOf};
 
 // The most bytes that a ticket has.
 const TICKET_LIMIT: usize = 4096;
 
-// Accepted, or the number of the refusal and its line.
+// Accepted with n and t, or the number of the refusal and its line.
 pub enum TicketAnswer {
-    Accepted,
+    Accepted(u8, u8),
     Refused(u8, u16),
 }
 
-// The table holds the instance of an accepted ticket.
-pub struct TicketRead {
-    pub answer: TicketAnswer,
-    pub table: InstanceTable,
+// n and t, and the place at which the second line begins.
+pub struct Header {
+    pub n: u8,
+    pub t: u8,
+    pub at: usize,
 }
 
 // What the first line says, or the refusal of the ticket.
 pub enum HeaderRead {
-    // n and t, and the place at which the second line begins.
-    Limits(u8, u8, usize),
+    Header(Header),
     Refused(u8, u16),
 }
 
-// Reads the first line of a ticket, unless the ticket is too long or empty.
-pub fn read_header(text: &[u8]) -> HeaderRead
-    ensures { λ r. ⌜ r ≡ headerOf (now (text .entry)) ⌝ }
+// Reads the first line of a text, by a table of digit values that is lent.
+fn read_first(digit_values: &[u8; 256], text: &[u8]) -> HeaderRead
+    requires { ⌜ now «digit_values» ≡ digitTable ⌝ }
+    ensures { λ r. ⌜ r ≡ firstOf (now (text .entry)) ⌝ }
 {
-    if TICKET_LIMIT < text.len() {
-        return HeaderRead::Refused(1, 0);
-    }
     if text.len() == 0 {
         return HeaderRead::Refused(3, 1);
     }
-    let ahead = reader::read_line(text, 0);
-    let rest = ahead.at;
+    let ahead = reader::read_line(digit_values, text, 0);
+    let at = ahead.at;
     let first = ahead.line;
     let LineRead::Line {
         size,
@@ -58,49 +58,48 @@ pub fn read_header(text: &[u8]) -> HeaderRead
     };
     let answer = ticket_lines::header_line(size, head, tail);
     match answer {
-        HeaderAnswer::Limits(n, t) => HeaderRead::Limits(n, t, rest),
+        HeaderAnswer::Limits(n, t) => HeaderRead::Header(Header { n, t, at }),
         HeaderAnswer::Refused(number) => HeaderRead::Refused(number, 1),
     }
 }
 
-// What a text that is over at line k is answered with: accepted past its 04, and otherwise refusal 3.
-fn at_end(place: Place, k: u16) -> TicketAnswer
-    ensures { λ r. ⌜ r ≡ endAnswer place k ⌝ }
+// Answers a text of n and t that is over at line k: accepted past its 04, and otherwise refusal 3.
+fn at_end(place: Place, k: u16, n: u8, t: u8) -> TicketAnswer
+    ensures { λ r. ⌜ r ≡ endAnswer place k n t ⌝ }
 {
     let Place::Ended = place else {
         return TicketAnswer::Refused(3, k);
     };
-    TicketAnswer::Accepted
+    TicketAnswer::Accepted(n, t)
 }
 
-// Reads the lines of a ticket behind its header, which says n and t, from the second line on, which begins at `at`, into lent arrays that hold nothing yet.
-// What the arrays hold after a refusal is not promised.
-pub fn read_rest(
+// Reads the lines after a header into lent arrays that hold nothing yet. What the arrays hold after a refusal is not promised.
+fn read_rest(
+    digit_values: &[u8; 256],
     text: &[u8],
-    n: u8,
-    t: u8,
-    at: usize,
+    header: Header,
     values: &mut [u32; 64],
     crash_rounds: &mut [u8; 64],
     steps: &mut [u8; 64],
     reached: &mut [u64; 64],
     counts: &mut [u8; 64],
 ) -> TicketAnswer
-    requires { ⌜ AfterHeader (now text) n t at
-        × (tableOf n t (now values) (now «crash_rounds») (now steps) (now reached) (now counts) ≡ emptyTable n t) ⌝ }
-    ensures { λ r. ⌜ readingFrom r
-        (tableOf n t (now (values .exit)) (now («crash_rounds» .exit)) (now (steps .exit)) (now (reached .exit)) (now (counts .exit)))
-        ≡ readTicket (now (text .entry)) ⌝ }
+    requires { ⌜ (now «digit_values» ≡ digitTable) × (withinLimits (header .n) (header .t) ≡ true) × (header .at ≤ length (now text))
+        × (tableOf (header .n) (header .t) (now values) (now «crash_rounds») (now steps) (now reached) (now counts)
+        ≡ emptyTable (header .n) (header .t)) ⌝ }
+    ensures { λ r. ⌜ readingOf r (now (values .exit)) (now («crash_rounds» .exit)) (now (steps .exit)) (now (reached .exit)) (now (counts .exit))
+        ≡ restOf (now (text .entry)) header ⌝ }
 {
-    let digit_table = digits::digit_table();
-    let mut here = at;
+    let n = header.n;
+    let t = header.t;
+    let mut here = header.at;
     let mut place = Place::Proposals(0);
     let mut k: u16 = 2;
     loop {
         if text.len() <= here {
-            return at_end(place, k);
+            return at_end(place, k, n, t);
         }
-        let ahead = reader::read_line_by_table(&digit_table, text, here);
+        let ahead = reader::read_line(digit_values, text, here);
         let line = ahead.line;
         let LineRead::Line {
             size,
@@ -132,57 +131,35 @@ pub fn read_rest(
     }
 }
 
-// A refusal of the header, beside an empty table.
-fn refused_header(number: u8, line: u16) -> TicketRead
-    ensures { λ r. ⌜ (r .answer ≡ TicketAnswer.Refused number line) × (r .table ≡ emptyTable 0 0) ⌝ }
+// Reads a ticket into lent arrays that hold nothing yet. What the arrays hold after a refusal is not promised.
+pub fn read_into(
+    text: &[u8],
+    values: &mut [u32; 64],
+    crash_rounds: &mut [u8; 64],
+    steps: &mut [u8; 64],
+    reached: &mut [u64; 64],
+    counts: &mut [u8; 64],
+) -> TicketAnswer
+    requires { ⌜ tableOf 0 0 (now values) (now «crash_rounds») (now steps) (now reached) (now counts) ≡ emptyTable 0 0 ⌝ }
+    ensures { λ r. ⌜ readingOf r (now (values .exit)) (now («crash_rounds» .exit)) (now (steps .exit)) (now (reached .exit)) (now (counts .exit))
+        ≡ readTicket (now (text .entry)) ⌝ }
 {
-    let answer = TicketAnswer::Refused(number, line);
-    let table = InstanceTable {
-        n: 0,
-        t: 0,
-        values: [0; 64],
-        crash_rounds: [0; 64],
-        steps: [0; 64],
-        reached: [0; 64],
-        counts: [0; 64],
-    };
-    TicketRead { answer, table }
-}
-
-// Reads a ticket whole, its header and the rest. What the table holds beside a refusal is not promised.
-pub fn read(text: &[u8]) -> TicketRead
-    ensures { λ r. ⌜ readingOf r ≡ readTicket (now (text .entry)) ⌝ }
-{
-    let header = read_header(text);
-    match header {
-        HeaderRead::Limits(n, t, at) => {
-            let mut values = [0u32; 64];
-            let mut crash_rounds = [0u8; 64];
-            let mut steps = [0u8; 64];
-            let mut reached = [0u64; 64];
-            let mut counts = [0u8; 64];
-            let answer = read_rest(
-                text,
-                n,
-                t,
-                at,
-                &mut values,
-                &mut crash_rounds,
-                &mut steps,
-                &mut reached,
-                &mut counts,
-            );
-            let table = InstanceTable {
-                n,
-                t,
-                values,
-                crash_rounds,
-                steps,
-                reached,
-                counts,
-            };
-            TicketRead { answer, table }
-        }
-        HeaderRead::Refused(number, line) => refused_header(number, line),
+    if TICKET_LIMIT < text.len() {
+        return TicketAnswer::Refused(1, 0);
+    }
+    let digit_values = digits::digit_table();
+    let first = read_first(&digit_values, text);
+    match first {
+        HeaderRead::Header(header) => read_rest(
+            &digit_values,
+            text,
+            header,
+            values,
+            crash_rounds,
+            steps,
+            reached,
+            counts,
+        ),
+        HeaderRead::Refused(number, line) => TicketAnswer::Refused(number, line),
     }
 }

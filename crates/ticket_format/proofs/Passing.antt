@@ -3,7 +3,8 @@ use mathlib.Core.Path.{_≡_, refl}
 use Prim.Native.Nat.{ℕ}
 use native.Mathlib.Omega.{arith}
 use Rattle.ticket_format.specs.LineVerdict.{LineVerdict, next, refuse}
-use Rattle.ticket_format.specs.Reading.{Reading, accepted, refused, proceed}
+use Rattle.general.specs.Answer.{Answer, accepted, refused}
+use Rattle.ticket_format.specs.Reading.{proceed}
 
 -- A refusal is not the next stage, nor what a text is accepted with.
 pub refuse-next : {S : Type 0} (refusal : ℕ) (s : S) → refuse refusal ≡ next s → ⊥
@@ -14,7 +15,7 @@ refused-accepted refusal k a e = let z : _≡_ {A = ℕ} 0 1 = cc in omega arith
 
 -- Where an accepted text went on.
 module _ {S : Type 0} where
-  pub proceeds : {A : Type 0} (step : LineVerdict S) (k : ℕ) (go : S → Reading A) (a : A) → proceed step k go ≡ accepted a
+  pub proceeds : {A : Type 0} (step : LineVerdict S) (k : ℕ) (go : S → Answer A) (a : A) → proceed step k go ≡ accepted a
       → (s : S) × (step ≡ next s) × (go s ≡ accepted a)
   unfolding proceed
   proceeds (next s) k go a e = (s, refl, e)

@@ -9,7 +9,8 @@ use lib.ListN.{length}
 use borrow.Author.Tests.{ltb-false}
 use Rattle.text.specs.Line.{Line, bytes, noLine, Scan, even, odd, broken, scan, closed, unclosed, linesFrom, linesOf}
 use Rattle.ticket_format.specs.LineVerdict.{LineVerdict, next, refuse}
-use Rattle.ticket_format.specs.Reading.{Reading, accepted, refused, proceed, readFrom}
+use Rattle.general.specs.Answer.{Answer, accepted, refused}
+use Rattle.ticket_format.specs.Reading.{proceed, readFrom}
 use Rattle.ticket_format.specs.Accept.{Stage, header, body, begin, store, accept}
 use Rattle.ticket_format.specs.declared.Place.{Place}
 use Rattle.ticket_format.specs.declared.Place.the-variants.{Proposals, Failures, Ended}
@@ -26,14 +27,14 @@ Numbered (next s) = Unit {0}
 Numbered (refuse number) = (1 ≤ number) × (number ≤ 8)
 
 -- A text, if it is refused, is refused with one of these numbers, at this line at the latest.
-unfoldable pub RefusedBy : {A : Type 0} → ℕ → Reading A → Type 0
+unfoldable pub RefusedBy : {A : Type 0} → ℕ → Answer A → Type 0
 RefusedBy last (accepted a) = Unit {0}
 RefusedBy last (refused number k) = (1 ≤ number) × (number ≤ 8) × (k ≤ last)
 
 -- Reading, whatever the format.
-module _ {S A : Type 0} (accept : S → List ℕ → LineVerdict S) (end : S → ℕ → Reading A) (last : ℕ)
+module _ {S A : Type 0} (accept : S → List ℕ → LineVerdict S) (end : S → ℕ → Answer A) (last : ℕ)
     (numbered : (s : S) (b : List ℕ) → Numbered (accept s b)) (ends : (s : S) (k : ℕ) → k ≤ last → RefusedBy last (end s k)) where
-  proceed-refused : (step : LineVerdict S) (k : ℕ) (go : S → Reading A) → Numbered step → k ≤ last → ((s : S) → RefusedBy last (go s))
+  proceed-refused : (step : LineVerdict S) (k : ℕ) (go : S → Answer A) → Numbered step → k ≤ last → ((s : S) → RefusedBy last (go s))
       → RefusedBy last (proceed step k go)
   unfolding Numbered RefusedBy proceed
   proceed-refused (next s) k go h g more = more s

@@ -5,7 +5,7 @@ use Prim.Native.Nat.{ℕ}
 use Prim.Native.String.{String}
 use Rattle.general.specs.Bits.{membersTo}
 use Rattle.consensus.specs.Instance.{Instance, Fault, correct, crashes, beforeSending, duringData, duringCommits, faultOf}
-use Rattle.ticket_format.specs.Reading.{Reading, accepted, refused}
+use Rattle.general.specs.Answer.{Answer, accepted, refused}
 use Rattle.ticket_format.specs.Ticket.{readTicket}
 use Rattle.text.specs.TextOf.{textOf}
 use Rattle.ticket_format.specs.Openings.{opening64}
@@ -41,7 +41,7 @@ unfoldable pub largeSetTicket : List ℕ
 largeSetTicket = textOf (opening64 ++ ("03010101FEDCBA987654321000" ∷ "04" ∷ []))
 
 -- What a ticket as read says of process 1.
-unfoldable pub firstFault : Reading Instance → Fault
+unfoldable pub firstFault : Answer Instance → Fault
 firstFault (accepted x) = faultOf x 1
 firstFault (refused refusal line) = correct
 

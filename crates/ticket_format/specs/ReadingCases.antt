@@ -7,7 +7,7 @@ use lib.ListN.{length, replicate}
 use Rattle.general.specs.Table.{tabulate}
 use Rattle.general.specs.Text.{ascii}
 use Rattle.consensus.specs.Instance.{Instance}
-use Rattle.ticket_format.specs.Reading.{Reading, accepted, refused}
+use Rattle.general.specs.Answer.{Answer, accepted, refused}
 use Rattle.ticket_format.specs.Ticket.{readTicket}
 use Rattle.text.specs.HexText.{hexLine, hexLines}
 use Rattle.text.specs.TextOf.{textOf}
@@ -18,7 +18,7 @@ pub data Verdict : Type 0 where
   passes : Verdict
   refusedWith : (refusal line : ℕ) → Verdict
 
-unfoldable pub verdictOf : {A : Type 0} → Reading A → Verdict
+unfoldable pub verdictOf : {A : Type 0} → Answer A → Verdict
 verdictOf (accepted a) = passes
 verdictOf (refused refusal line) = refusedWith refusal line
 
@@ -185,7 +185,7 @@ unfoldable pub fullest : List ℕ
 fullest = textOf opening64 ++ hexLines (tabulate (λ (k : ℕ). 3 ∷ (k + 2) ∷ 64 ∷ replicate 10 0) 63) ++ textOf ("04" ∷ [])
 
 -- n and t of what a text is accepted with.
-unfoldable pub limitsOf : Reading Instance → List ℕ
+unfoldable pub limitsOf : Answer Instance → List ℕ
 limitsOf (accepted x) = x .processes ∷ x .resilience ∷ []
 limitsOf (refused refusal line) = []
 

@@ -20,7 +20,8 @@ use Rattle.text.specs.Line.{bytes, linesOf}
 use Rattle.text.proofs.HexText.{length-hexLine}
 use Rattle.text.proofs.LineBytes.{lines-bytes}
 use Rattle.text.proofs.Split.{FullLines, lines-read-back, lines-written}
-use Rattle.ticket_format.specs.Reading.{accepted, refused, readFrom}
+use Rattle.general.specs.Answer.{accepted, refused}
+use Rattle.ticket_format.specs.Reading.{readFrom}
 use Rattle.ticket_format.specs.Accept.{header, accept}
 use Rattle.ticket_format.specs.Ticket.{ticketLimit, atEnd, readTicket}
 use Rattle.ticket_laws.specs.TicketText.{headerLine, proposalLine, pointBytes, crashLine, crashLines, endLine, ticketLines, ticketText}

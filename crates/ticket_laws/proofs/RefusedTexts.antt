@@ -12,7 +12,8 @@ use Rattle.general.proofs.Tests.{by-order}
 use Rattle.consensus.specs.Instance.{Instance}
 use Rattle.text.specs.Line.{Line, bytes, noLine, linesOf}
 use Rattle.ticket_format.specs.LineVerdict.{LineVerdict, next, refuse}
-use Rattle.ticket_format.specs.Reading.{Reading, refused, proceed, readFrom}
+use Rattle.general.specs.Answer.{Answer, refused}
+use Rattle.ticket_format.specs.Reading.{proceed, readFrom}
 use Rattle.ticket_format.specs.Accept.{Stage, header, body, accept}
 use Rattle.ticket_format.specs.declared.Place.the-variants.{Proposals, Failures, Ended}
 use Rattle.ticket_format.specs.Ticket.{ticketLimit, atEnd, readTicket}
@@ -105,7 +106,7 @@ module _ (text : List ℕ) where
       ∙ not-ended before (t .to) (suc (length before)) (t .behind) open-yet
 
   -- The same refusal, told as another.
-  told : (refusal line refusal′ line′ : ℕ) → _≡_ {A = Reading Instance} (refused refusal line) (refused refusal′ line′) → FirstWrong text refusal line
+  told : (refusal line refusal′ line′ : ℕ) → _≡_ {A = Answer Instance} (refused refusal line) (refused refusal′ line′) → FirstWrong text refusal line
       → FirstWrong text refusal′ line′
   told refusal line refusal′ line′ e so =
       let same : refusal ≡ refusal′ = cc in

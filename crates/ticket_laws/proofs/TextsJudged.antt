@@ -3,21 +3,21 @@ use mathlib.Core.List.{List}
 use mathlib.Core.Path.{_≡_, refl, sym, _∙_}
 use Prim.Native.Nat.{ℕ}
 use Rattle.consensus.specs.Instance.{Instance}
-use Rattle.ticket_format.specs.Reading.{Reading, accepted, refused}
+use Rattle.general.specs.Answer.{Answer, accepted, refused}
 use Rattle.ticket_format.specs.Ticket.{readTicket}
 use Rattle.ticket_format.proofs.Passing.{refused-accepted}
 use Rattle.ticket_laws.specs.TextsJudged.{TextJudged, isTicket, isWrong, TextsJudged}
 use Rattle.ticket_laws.proofs.AcceptedTexts.{accepted-texts}
 use Rattle.ticket_laws.proofs.RefusedTexts.{refused-texts}
 
-judged-as : (text : List ℕ) (reading : Reading Instance) → readTicket text ≡ reading → TextJudged text
+judged-as : (text : List ℕ) (reading : Answer Instance) → readTicket text ≡ reading → TextJudged text
 judged-as text (accepted x) e = isTicket x (accepted-texts .exact text x e)
 judged-as text (refused refusal line) e = isWrong refusal line (refused-texts .only text refusal line e)
 
 same-instance : (x y : Instance) → accepted x ≡ accepted y → x ≡ y
 same-instance x y e = cc
 
-same-refusal : (refusal line refusal′ line′ : ℕ) → _≡_ {A = Reading Instance} (refused refusal line) (refused refusal′ line′)
+same-refusal : (refusal line refusal′ line′ : ℕ) → _≡_ {A = Answer Instance} (refused refusal line) (refused refusal′ line′)
     → (refusal ≡ refusal′) × (line ≡ line′)
 same-refusal refusal line refusal′ line′ e =
     let first : refusal ≡ refusal′ = cc in

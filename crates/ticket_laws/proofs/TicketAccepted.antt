@@ -15,7 +15,8 @@ use Rattle.consensus.specs.Limits.{Limits}
 use Rattle.consensus.specs.WellFormed.{faultCount}
 use Rattle.coordinator.specs.WellFormed.{FaultAllowed, WellFormed}
 use Rattle.text.specs.Line.{Line, bytes}
-use Rattle.ticket_format.specs.Reading.{accepted, proceed, readFrom}
+use Rattle.general.specs.Answer.{accepted}
+use Rattle.ticket_format.specs.Reading.{proceed, readFrom}
 use Rattle.ticket_format.specs.Says.{afterProposal}
 use Rattle.ticket_format.specs.Accept.{header, body, unproposed, withProposal, accept}
 use Rattle.ticket_format.specs.declared.Place.{Place}

@@ -16,7 +16,8 @@ use Rattle.consensus.specs.Instance.{Instance, Fault, correct, crashes, CrashPo
 use Rattle.text.specs.Line.{Line, bytes, noLine}
 use Rattle.text.proofs.LineBytes.{Lines}
 use Rattle.ticket_format.specs.LineVerdict.{LineVerdict, next, refuse}
-use Rattle.ticket_format.specs.Reading.{accepted, readFrom}
+use Rattle.general.specs.Answer.{accepted}
+use Rattle.ticket_format.specs.Reading.{readFrom}
 use Rattle.ticket_format.specs.Says.{isKind, headerSays, afterProposal, failureLine}
 use Rattle.ticket_format.specs.FailureLine.{faultBy}
 use Rattle.ticket_laws.specs.FirstWrong.{stationIn, stepIn}

@@ -16,7 +16,8 @@ use Rattle.consensus.specs.Instance.{Instance, correct, faultOf, withinLimits}
 use Rattle.coordinator.specs.WellFormed.{FaultAllowed, WellFormed}
 use Rattle.consensus.specs.WellFormed.{FaultAllowedBy, faultCount}
 use Rattle.text.specs.Line.{linesOf}
-use Rattle.ticket_format.specs.Reading.{accepted, refused, readFrom}
+use Rattle.general.specs.Answer.{accepted, refused}
+use Rattle.ticket_format.specs.Reading.{readFrom}
 use Rattle.ticket_format.specs.declared.FailureLine.{FailureLine}
 use Rattle.ticket_format.specs.FailureLine.{faultBy}
 use Rattle.ticket_format.specs.Says.{isKind, headerSays, afterProposal, failureLine}

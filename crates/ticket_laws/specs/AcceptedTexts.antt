@@ -6,7 +6,7 @@ use lib.ListN.{length}
 use Rattle.consensus.specs.Instance.{Instance}
 use Rattle.coordinator.specs.WellFormed.{WellFormed}
 use Rattle.text.specs.Capitals.{capital}
-use Rattle.ticket_format.specs.Reading.{accepted}
+use Rattle.general.specs.Answer.{accepted}
 use Rattle.ticket_format.specs.Ticket.{readTicket}
 use Rattle.ticket_laws.specs.TicketText.{ticketText}
 

@@ -11,14 +11,14 @@ use lib.ListN.{getD}
 use Rattle.consensus.specs.Instance.{withinLimits}
 use Rattle.ticket_format.specs.FailureLine.{placesCrash, suitsStep}
 use Rattle.ticket_format.specs.Says.{isKind, headerSays, afterProposal, proposalSays, failureLine, crashSays, failureSays, lineSays}
-use Rattle.ticket_lines.specs.Places.{HasPlaces}
+use Rattle.ticket_lines.specs.code.Places.{HasPlaces}
 use Rattle.ticket_format.specs.declared.FailureLine.{FailureLine}
 use Rattle.ticket_format.specs.declared.Place.{Place}
 use Rattle.ticket_format.specs.declared.Place.the-variants.{Proposals, Failures, Ended}
 use Rattle.ticket_format.specs.declared.HeaderAnswer.{HeaderAnswer}
 use Rattle.ticket_format.specs.declared.LineAnswer.{LineAnswer}
 use Rattle.ticket_format.specs.declared.LineAnswer.the-variants.{Proposal, Crash, End, Refused}
-use Rattle.lines.specs.Words.{lineBytes}
+use Rattle.lines.specs.code.Words.{lineBytes}
 use Rattle.ticket_lines.proofs.Fields.{length-line, end-kind, header-kind, header-n, header-t, proposal-kind, proposal-station, proposal-value}
 use Rattle.ticket_lines.proofs.Fields.{failure-kind, failure-station, failure-round, failure-step, failure-set, failure-count}
 

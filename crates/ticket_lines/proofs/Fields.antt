@@ -6,7 +6,7 @@ use native.Mathlib.Omega.{arith}
 use lib.ListN.{length, getD, take, drop, length-append}
 use Rattle.general.specs.BigEndian.{number, numberFrom, bytesOf}
 use Rattle.general.proofs.BigEndian.{number-bytes, bytes-low}
-use Rattle.lines.specs.Words.{lineBytes}
+use Rattle.lines.specs.code.Words.{lineBytes}
 
 length-bytesOf : (width v : ℕ) → length (bytesOf width v) ≡ width
 unfolding bytesOf

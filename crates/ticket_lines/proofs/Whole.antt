@@ -14,7 +14,7 @@ use Rattle.ticket_format.specs.declared.Place.{Place}
 use Rattle.ticket_format.specs.declared.Place.the-variants.{Proposals, Failures, Ended}
 use Rattle.ticket_format.specs.declared.HeaderAnswer.{HeaderAnswer}
 use Rattle.ticket_format.specs.declared.LineAnswer.the-variants.{Refused}
-use Rattle.lines.specs.Words.{upperWord, lowerWord, lineBytes}
+use Rattle.lines.specs.code.Words.{upperWord, lowerWord, lineBytes}
 use Rattle.lines.proofs.Words.{words-bytes}
 use Rattle.ticket_lines.proofs.Fields.{length-line}
 

@@ -6,10 +6,10 @@ use ticket_format::LineAnswer;
 use ticket_format::Place;
 ghost use mathlib.Core.Path.{_≡_};
 ghost use Prim.Native.Nat.{_≤_, _<_};
-ghost use Rattle.lines.specs.Words.{lineBytes};
+ghost use Rattle.lines.specs.code.Words.{lineBytes};
 ghost use Rattle.ticket_format.specs.Says.{headerSays, afterProposal, proposalSays, failureLine, crashSays, failureSays, lineSays};
 ghost use Rattle.ticket_format.specs.declared.LineAnswer.the-variants.{Proposal};
-ghost use Rattle.ticket_lines.specs.Places.{HasPlaces};
+ghost use Rattle.ticket_lines.specs.code.Places.{HasPlaces};
 
 // The kinds of a ticket's lines, and the bytes that each has.
 const HEADER: u64 = 1;

@@ -3,41 +3,41 @@ use Rattle.agreement.proofs.Codes.{quote-call, refused-call}
 use mathlib.Core.Path.{refl, ap}
 use borrow.Author.Needs.{needs}
 use Rattle.pricing_format.specs.QuoteCall.{refusalNumber}
-use Rattle.quotes.specs.Answer.{quoteOfAnswer}
+use Rattle.answers.specs.Reply.{answerBy}
 use Rattle.agreement.proofs.uc_price.Statement.{statement}
 use Rattle.agreement.proofs.uc_price.Tie as tie
 
 quote-own-requires : tie.Need-quote-own-requires
 quote-own-requires c κs = search needs
 
-enum-known-answer : tie.Need-enum-known-answer
-enum-known-answer c = search needs
+enum-known-reply : tie.Need-enum-known-reply
+enum-known-reply c = search needs
 
-enum-known-answer-2 : tie.Need-enum-known-answer-2
-enum-known-answer-2 c = search needs
+enum-known-reply-2 : tie.Need-enum-known-reply-2
+enum-known-reply-2 c = search needs
 
 cast-result : tie.Need-cast-result
 cast-result c = search needs
 
 returns : tie.Need-returns
-unfolding quoteOfAnswer refusalNumber
+unfolding answerBy refusalNumber
 returns c =
     let told = c .before in
-    quote-call _ _ (told .before .before .quote-own .ensures) _ _ _ (ap quoteOfAnswer (told .answer .given .1)) refl
+    quote-call _ _ (told .before .before .quote-own .ensures) _ _ _ (ap answerBy (told .reply .given .1)) refl
 
 returns-2 : tie.Need-returns-2
-unfolding quoteOfAnswer refusalNumber
+unfolding answerBy refusalNumber
 returns-2 c =
     let told = c .before in
-    refused-call _ _ (told .before .before .quote-own .ensures) _ _ _ _ _ (ap quoteOfAnswer (told .answer2 .given .1)) refl
+    refused-call _ _ (told .before .before .quote-own .ensures) _ _ _ _ _ (ap answerBy (told .reply2 .given .1)) refl
 
 pub uc-price-spec : {M : Type 1} → statement M
 uc-price-spec =
     tie.close
     (tie.spec
     quote-own-requires
-    enum-known-answer
-    enum-known-answer-2
+    enum-known-reply
+    enum-known-reply-2
     cast-result
     returns
     returns-2)

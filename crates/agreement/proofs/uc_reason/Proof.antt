@@ -1,44 +1,18 @@
 -- `agreement::uc_reason` meets its contract. Assumes nothing.
-use Rattle.agreement.proofs.Codes.{number-code, refused-number-code}
-use mathlib.Core.Path.{ap}
+use mathlib.Core.Path.{ap, _∙_}
 use borrow.Author.Needs.{needs}
-use Rattle.reasons.specs.Answer.{reasonOfAnswer}
+use Rattle.answers.specs.Code.{numberCode}
 use Rattle.agreement.proofs.uc_reason.Statement.{statement}
 use Rattle.agreement.proofs.uc_reason.Tie as tie
 
 reason-of-requires : tie.Need-reason-of-requires
 reason-of-requires c κs = search needs
 
-enum-known-answer : tie.Need-enum-known-answer
-enum-known-answer c = search needs
-
-cast-result : tie.Need-cast-result
-cast-result c = search needs
-
-enum-known-answer-2 : tie.Need-enum-known-answer-2
-enum-known-answer-2 c = search needs
-
-refusal-code-requires : tie.Need-refusal-code-requires
-refusal-code-requires c κs = search needs
+reply-code-requires : tie.Need-reply-code-requires
+reply-code-requires c κs = search needs
 
 returns : tie.Need-returns
-unfolding reasonOfAnswer
-returns c = number-code _ _ (c .before .before .before .reason-of .ensures) _ (ap reasonOfAnswer (c .before .answer .given .1))
-
-returns-2 : tie.Need-returns-2
-unfolding reasonOfAnswer
-returns-2 c =
-    let told = c .before .before in
-    refused-number-code _ _ (told .before .before .reason-of .ensures) _ _ _ (ap reasonOfAnswer (told .answer2 .given .1)) (c .refusal-code .ensures)
+returns c = c .reply-code .ensures ∙ ap numberCode (c .before .reason-of .ensures)
 
 pub uc-reason-spec : {M : Type 1} → statement M
-uc-reason-spec =
-    tie.close
-    (tie.spec
-    reason-of-requires
-    enum-known-answer
-    cast-result
-    enum-known-answer-2
-    refusal-code-requires
-    returns
-    returns-2)
+uc-reason-spec = tie.close (tie.spec reason-of-requires reply-code-requires returns)

@@ -6,7 +6,7 @@ use native.Mathlib.Numerals.{add-one}
 use borrow.Author.Needs.{needs}
 use lib.ListN.{length, getD}
 use Rattle.general.proofs.Table.{overwritten, overwritten-none, overwritten-more}
-use Rattle.coordinator_reason.specs.ByEnds.{reasonByEnd, rowByEnds}
+use Rattle.coordinator_reason.specs.code.ByEnds.{reasonByEnd, rowByEnds}
 use Rattle.coordinator_reason.proofs.put_row.Statement.{statement}
 use Rattle.coordinator_reason.proofs.put_row.Tie as tie
 

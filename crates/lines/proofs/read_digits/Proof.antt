@@ -6,7 +6,7 @@ use Prim.Native.Nat.{ℕ, _+_, _-_, _<_}
 use lib.ListN.{length, getD}
 use Rattle.text.specs.Digit.{digitValue}
 use Rattle.text.proofs.Digit.{digit-entry, value-most, value-below-mark}
-use Rattle.lines.specs.Scanned.{Scanned}
+use Rattle.lines.specs.code.Scanned.{Scanned}
 use Rattle.lines.proofs.Scanning.{scanned-none, scanned-more, stops-at-mark, stops-at-end}
 use Rattle.lines.proofs.read_digits.Statement.{statement}
 use Rattle.lines.proofs.read_digits.Tie as tie

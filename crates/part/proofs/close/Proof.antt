@@ -2,7 +2,7 @@
 use borrow.Author.Needs.{needs}
 use native.Mathlib.Omega.{arith}
 use mathlib.Core.Path.{ap, sym, _∙_}
-use Rattle.part_frames.specs.Heard.{heardAs}
+use Rattle.part_frames.specs.code.Heard.{heardAs}
 use Rattle.part_format.proofs.Opened.{Opened, opened}
 use Rattle.part_format.proofs.Operations.{close-refused, close-no-form, close-closed}
 use Rattle.part.proofs.close.Statement.{statement}

@@ -2,7 +2,7 @@
 use borrow.Author.Needs.{needs}
 use native.Mathlib.Omega.{arith}
 use mathlib.Core.Path.{_∙_}
-use Rattle.part_frames.specs.Heard.{messagesAs, heardAs}
+use Rattle.part_frames.specs.code.Heard.{messagesAs, heardAs}
 use Rattle.part_frames.proofs.Frames.{heard-by-other, heard-by-own-bytes, heard-by-own}
 use Rattle.part_frames.proofs.heard_by.Statement.{statement}
 use Rattle.part_frames.proofs.heard_by.Tie as tie

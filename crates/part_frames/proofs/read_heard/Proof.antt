@@ -4,7 +4,7 @@ use native.Mathlib.Omega.{arith}
 use mathlib.Core.Path.{_≡_, sym, _∙_}
 use mathlib.Core.Bool.{true}
 use borrow.Author.Tests.{not-true, not-false}
-use Rattle.part_frames.specs.Heard.{heardAs, messagesAs}
+use Rattle.part_frames.specs.code.Heard.{heardAs, messagesAs}
 use Rattle.part_frames.proofs.Frames.{starts, heard-nothing, heard-other-size, heard-no-data, heard-data, heard-no-commit, heard-both}
 use Rattle.part_frames.proofs.read_heard.Statement.{statement}
 use Rattle.part_frames.proofs.read_heard.Tie as tie

@@ -1,7 +1,7 @@
 -- `place_behind` meets its contract, by the cases of the line. Assumes nothing.
 use mathlib.Core.Path.{refl}
 use borrow.Author.Needs.{needs}
-use Rattle.reader.specs.Advance.{placeBehind}
+use Rattle.reader.specs.code.Advance.{placeBehind}
 use Rattle.reader.proofs.place_behind.Statement.{statement}
 use Rattle.reader.proofs.place_behind.Tie as tie
 

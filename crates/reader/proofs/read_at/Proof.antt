@@ -1,4 +1,4 @@
--- `read_at` meets its contract: it answers what the cursor by value reads. Assumes nothing.
+-- `read_at` meets its contract: it answers what the cursor by value reads, by the table that is lent on. Assumes nothing.
 use borrow.Author.Needs.{needs}
 use Rattle.reader.proofs.read_at.Statement.{statement}
 use Rattle.reader.proofs.read_at.Tie as tie

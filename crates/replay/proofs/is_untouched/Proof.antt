@@ -3,7 +3,7 @@ use Prim.Native.Nat.{_-_}
 use Rattle.replay.proofs.Untouched.{untouched-end, untouched-other, untouched-more}
 use Rattle.replay.proofs.is_untouched.Statement.{statement}
 use Rattle.replay.proofs.is_untouched.Tie as tie
-use Rattle.replay.specs.Untouched.{untouched}
+use Rattle.replay.specs.code.Untouched.{untouched}
 use borrow.Author.Needs.{needs}
 use lib.ListN.{length, drop}
 use mathlib.Core.Path.{_≡_, refl}

@@ -9,25 +9,29 @@ use mathlib.Core.Path.{sym, _∙_}
 use native.Mathlib.Omega.{arith}
 
 abbrev Inv-loop : tie.InvT-loop
-Inv-loop text here₀ here = Unit {0}
+Inv-loop text values here₀ here = Unit {0}
 
 abbrev μ-loop : tie.MeasureT-loop
-μ-loop text here₀ here = length text - here .at
+μ-loop text values here₀ here = length text - here .at
 
 -- The turn of the loop in which a line was read, and the line.
 abbrev turn : tie.After-read Inv-loop μ-loop → tie.At-loop Inv-loop μ-loop
-turn c = c .before .before .before
+turn c = c .before .before .before .before
 
 line-here : (c : tie.After-size Inv-loop μ-loop)
-    → LineAt (turn (c .before .before) .before .before .args .text .now) (turn (c .before .before) .loop .here .at)
+    → LineAt (turn (c .before .before) .before .before .before .args .text .now) (turn (c .before .before) .loop .here .at)
     (c .size .given .0 .0) (c .size .given .0 .1 .0) (c .size .given .0 .1 .1 .0) (c .size .given .0 .1 .1 .1 .0)
 line-here c = read-line _ _ _ _ _ _ (sym (c .before .before .read .ensures) ∙ c .size .given .1)
+
+digit-table-requires : tie.Need-digit-table-requires Inv-loop μ-loop
+digit-table-requires c κs = search needs
 
 loop-holds : tie.Need-loop-holds Inv-loop μ-loop
 loop-holds c = tt
 
+-- The table that is lent is the one of `digit_table`, which nothing in the loop changes.
 read-requires : tie.Need-read-requires Inv-loop μ-loop
-read-requires c κs = search needs
+read-requires c κs = c .before .before .before .before .digit-table .ensures
 
 enum-known-size : tie.Need-enum-known-size Inv-loop μ-loop
 enum-known-size c = search needs
@@ -59,6 +63,7 @@ replay-spec =
     (tie.spec
     Inv-loop
     μ-loop
+    digit-table-requires
     loop-holds
     read-requires
     enum-known-size

@@ -5,7 +5,7 @@ use Rattle.answers.proofs.ResultLength.{length-line}
 use Rattle.result.proofs.ResultLine.{line-of, withLines, length-with, with-none, with-all, with-more}
 use Rattle.result.proofs.put_process_lines.Statement.{statement}
 use Rattle.result.proofs.put_process_lines.Tie as tie
-use Rattle.tables.specs.RunOfTable.{statesOver}
+use Rattle.tables.specs.code.RunOfTable.{statesOver}
 use Rattle.tables.proofs.Places.{length-states-over, state-over}
 use borrow.Author.Needs.{needs}
 use lib.ListN.{length, take}

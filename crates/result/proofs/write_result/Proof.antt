@@ -3,16 +3,20 @@ use Rattle.result.proofs.ResultLine.{result-written}
 use Rattle.tables.proofs.Places.{length-states-over}
 use Rattle.result.proofs.write_result.Statement.{statement}
 use Rattle.result.proofs.write_result.Tie as tie
-use Rattle.tables.specs.RunOfTable.{runOver}
+use Rattle.tables.specs.code.RunOfTable.{runOver, runFrom}
 use Rattle.answers.specs.ResultLine.{resultSize}
 use borrow.Author.Needs.{needs}
 use lib.ListN.{length, length-take, length-drop}
 use mathlib.Core.Path.{_≡_}
 use native.Mathlib.Omega.{arith}
 
+-- The table's ends have 64 places.
+places : (c : tie.After-put-process-lines-arg4) → length (c .before .before .before .before .before .before .args .t3 .ends) ≡ 64
+places c = search needs
+
 put-process-lines-requires : tie.Need-put-process-lines-requires
 unfolding resultSize
-put-process-lines-requires c κs = omega arith
+put-process-lines-requires c κs = omega (arith, places c)
 
 mul-at : tie.Need-mul-at
 mul-at c = search needs
@@ -50,16 +54,12 @@ returns c =
     let written = c .before .before in
     let last = written .before .before .before in
     let lines = last .before .before .before in
-    let start = lines .before .before .before in
+    let start = lines .before .before .before .before .before .before .before in
     let args = start .args in
-    result-written (runOver (args .n) (args .ends .now) (args .end-rounds .now) (args .values .now) (args .rounds) (args .speakers) (args .data-sent)
-    (args .commits-sent))
-    _ _ (args .f) (args .n) (length-states-over (args .n) (args .ends .now) (args .end-rounds .now) (args .values .now) (start .pre .1))
-    (args .out .now) _ _ _
-    (start .pre .2)
-    (lines .put-process-lines .ensures)
-    (last .last-bytes .ensures)
-    (written .put-line .ensures)
+    let table = args .t3 in
+    result-written (runFrom (args .n) table) _ _ (args .f) (args .n)
+    (length-states-over (args .n) (table .ends) (table .«end_rounds») (table .values) (omega (arith, places (lines .before), start .pre .0)))
+    (args .out .now) _ _ _ (start .pre .1) (lines .put-process-lines .ensures) (last .last-bytes .ensures) (written .put-line .ensures)
 
 pub write-result-spec : {M : Type 1} → statement M
 write-result-spec =

@@ -1,47 +1,50 @@
--- `running::settle` meets its contract: each answer is a law of Answers, at what reading the ticket ensures. Assumes nothing.
-use mathlib.Core.Path.{_≡_, refl}
+-- `running::settle` meets its contract: the ticket is refused, or its instance settles in a round. Assumes nothing.
+use mathlib.Core.Path.{refl, ap, _∙_}
 use borrow.Author.Needs.{needs}
-use Rattle.tables.specs.InstanceOfTable.{instanceOf}
-use Rattle.ticket_format.specs.Reading.{accepted}
-use Rattle.ticket_format.specs.Ticket.{readTicket}
+use Rattle.general.specs.Answer.{accepted}
+use Rattle.coordinator.specs.Settling.{firstSettling}
 use Rattle.ticket_laws.proofs.WellFormed.{accepted-well-formed}
-use Rattle.ticket.proofs.ReadAs.{read-refused, read-accepted}
-use Rattle.running.proofs.Answers.{settled-in, settle-refused}
+use Rattle.ticket.proofs.ReadAs.{read-accepted, then-accepted, then-refused}
+use Rattle.answers.specs.Settle.{settling}
+use Rattle.answers.specs.Reply.{answerBy}
 use Rattle.running.proofs.settle.Statement.{statement}
 use Rattle.running.proofs.settle.Tie as tie
 
-read-requires : tie.Need-read-requires
-read-requires c κs = search needs
+read-into-requires : tie.Need-read-into-requires
+read-into-requires c κs = refl
 
-enum-known-answer : tie.Need-enum-known-answer
-enum-known-answer c = search needs
+enum-known-read : tie.Need-enum-known-read
+enum-known-read c = search needs
+
+-- The ticket was accepted, before its arrays are lent on.
+abbrev lent : tie.After-counts2 → tie.After-read
+lent c = c .before .before .before .before .before
+
+settling-round-requires : tie.Need-settling-round-requires
+settling-round-requires c κs =
+    let read = lent c in
+    accepted-well-formed _ _ (read-accepted _ _ _ _ _ _ _ (read .before .before .read-into .ensures) (read .read .given .1))
+
+cast-t24 : tie.Need-cast-t24
+cast-t24 c = search needs
+
+enum-known-read-2 : tie.Need-enum-known-read-2
+enum-known-read-2 c = search needs
 
 returns : tie.Need-returns
+unfolding settling answerBy
 returns c =
-    let read = c .before .before .before .read in
-    settle-refused _ _ _ (read-refused _ _ _ (read .ensures) _ _ (c .before .answer .given .1))
-
-enum-told : tie.Need-enum-told
-enum-told c = search needs
-
--- Past the first return the ticket is accepted, with the instance of the table.
-ticket-read : (c : tie.After-enum-told)
-    → readTicket (c .before .before .before .before .args .text .now) ≡ accepted (instanceOf (c .before .before .read .result .table))
-ticket-read c = read-accepted _ _ _ (c .before .before .read .ensures) (c .enum-told .given .1)
-
--- It was, where the arrays of the table are lent.
-abbrev before-lending : tie.After-run-all-arg4 → tie.After-enum-told
-before-lending c =
-    let lent = c .before .before .before .before in
-    lent .before .before .before
-
-run-all-requires : tie.Need-run-all-requires
-run-all-requires c κs = (accepted-well-formed _ _ (ticket-read (before-lending (c .before .before))), (refl, refl))
+    let read = lent (c .before) in
+    ap accepted (c .settling-round .ensures)
+    ∙ then-accepted _ _ _ _ _ _ _ (read .before .before .read-into .ensures) (λ x. accepted (firstSettling x)) (read .read .given .1)
 
 returns-2 : tie.Need-returns-2
-returns-2 c = settled-in _ _ (c .run-all .result) _ _ (ticket-read (before-lending (c .before .before .before))) (c .run-all .ensures)
+unfolding settling answerBy
+returns-2 c =
+    let read = c .before in
+    then-refused _ _ _ _ _ _ _ (read .before .before .read-into .ensures) (λ x. accepted (firstSettling x)) (read .read2 .given .1)
 
 pub settle-spec : {M : Type 1} → statement M
 settle-spec =
     tie.close
-    (tie.spec read-requires enum-known-answer returns enum-told run-all-requires returns-2)
+    (tie.spec read-into-requires enum-known-read settling-round-requires cast-t24 enum-known-read-2 returns returns-2)

@@ -1,6 +1,6 @@
 -- `simulate::answer_text` meets its contract: each answer of running is a law of Answered. Assumes nothing.
 use Rattle.answers.specs.ResultLine.{resultSize}
-use Rattle.running.proofs.Answers.{written-fits}
+use Rattle.answers.proofs.Replies.{written-fits}
 use Rattle.simulate.proofs.Answered.{front-written, front-refused}
 use Rattle.simulate.proofs.answer_text.Statement.{statement}
 use Rattle.simulate.proofs.answer_text.Tie as tie

@@ -5,46 +5,44 @@ use Prim.Native.Nat.{_-_, _≤_, _<_}
 use native.Mathlib.Omega.{arith}
 use lib.ListN.{length}
 use borrow.Author.Needs.{needs}
-use Rattle.tables.specs.InstanceOfTable.{tableOf}
+use Rattle.tables.specs.code.InstanceOfTable.{tableOf}
 use Rattle.lines.proofs.Read.{LineAt}
 use Rattle.reader.proofs.Advanced.{advance-read, advance-line}
-use Rattle.ticket.proofs.Reached.{reached-start, reached-end, reached-no-line, Reached, same-place}
+use Rattle.ticket.specs.code.FirstLine.{restOf}
+use Rattle.ticket.proofs.Reached.{reached-start, reached-end, reached-no-line, Reached, same-place, few-lines}
 use Rattle.ticket.proofs.Reached.{proposal-place, crash-place, reached-refused, reached-proposal, reached-crash, reached-ended}
 use Rattle.ticket.proofs.read_rest.Statement.{statement}
 use Rattle.ticket.proofs.read_rest.Tie as tie
 
 abbrev Inv-loop : tie.InvT-loop
-Inv-loop text n t at values₀ rounds₀ steps₀ reached₀ counts₀ digits here₀ place₀ k₀ values rounds steps reached counts here place k =
-    Reached text (tableOf n t values rounds steps reached counts) here place k
+Inv-loop digits text values₀ rounds₀ steps₀ reached₀ counts₀ n t at place₀ k₀ values rounds steps reached counts here place k =
+    Reached (restOf text (record { n = n; t = t; at = at })) text (tableOf n t values rounds steps reached counts) here place k
 
 abbrev μ-loop : tie.MeasureT-loop
-μ-loop text n t at values₀ rounds₀ steps₀ reached₀ counts₀ digits here₀ place₀ k₀ values rounds steps reached counts here place k = length text - here
+μ-loop digits text values₀ rounds₀ steps₀ reached₀ counts₀ n t at place₀ k₀ values rounds steps reached counts here place k = length text - here
 
 -- The turn of the loop in which a line was looked for.
-abbrev turn : tie.After-read-line-by-table Inv-loop μ-loop → tie.At-loop Inv-loop μ-loop
-turn c = c .before .before .before
+abbrev turn : tie.After-read-line Inv-loop μ-loop → tie.At-loop Inv-loop μ-loop
+turn c = c .before .before
 
 -- The line that was read.
 line-here : (c : tie.After-line Inv-loop μ-loop) → let read = c .before .before in
-    LineAt (turn read .before .before .before .args .text .now) (turn read .loop .here) (c .line .given .0 .0) (c .line .given .0 .1 .0)
-    (c .line .given .0 .1 .1 .0) (record { at = read .read-line-by-table .result .at })
-line-here c = advance-line _ _ _ (c .before .before .read-line-by-table .ensures) _ _ _ _ (c .line .given .1)
-
-digit-table-requires : tie.Need-digit-table-requires Inv-loop μ-loop
-digit-table-requires c κs = search needs
+    LineAt (turn read .before .before .args .text .now) (turn read .loop .here) (c .line .given .0 .0) (c .line .given .0 .1 .0)
+    (c .line .given .0 .1 .1 .0) (record { at = read .read-line .result .at })
+line-here c = advance-line _ _ _ (c .before .before .read-line .ensures) _ _ _ _ (c .line .given .1)
 
 loop-holds : tie.Need-loop-holds Inv-loop μ-loop
-loop-holds c = let start = c .before .before in reached-start _ _ _ _ (start .pre .0) _ (start .pre .1)
+loop-holds c = let start = c .before in reached-start _ _ (start .pre .1) (start .pre .2) _ (start .pre .3)
 
 at-end-requires : tie.Need-at-end-requires Inv-loop μ-loop
 at-end-requires c κs = search needs
 
 returns : tie.Need-returns Inv-loop μ-loop
-returns c = reached-end _ _ _ _ _ (c .before .before .loop .inv) (omega arith) _ (c .at-end .ensures)
+returns c = reached-end _ _ _ _ _ _ (c .before .before .loop .inv) (omega arith) _ (c .at-end .ensures)
 
--- The table that is lent is the one of `digit_table`, which nothing in the loop changes.
-read-line-by-table-requires : tie.Need-read-line-by-table-requires Inv-loop μ-loop
-read-line-by-table-requires c κs = c .before .before .before .digit-table .ensures
+-- The table that is lent is the digits', which nothing in the loop changes.
+read-line-requires : tie.Need-read-line-requires Inv-loop μ-loop
+read-line-requires c κs = c .before .before .before .pre .0
 
 enum-known-line : tie.Need-enum-known-line Inv-loop μ-loop
 enum-known-line c = search needs
@@ -55,7 +53,7 @@ enum-told c = search needs
 returns-2 : tie.Need-returns-2 Inv-loop μ-loop
 returns-2 c =
     let answered = c .before .before in
-    reached-no-line _ _ _ _ _ (turn answered .loop .inv) (omega arith) (sym (c .enum-told .given .1) ∙ advance-read _ _ _ (answered .read-line-by-table .ensures))
+    reached-no-line _ _ _ _ _ _ (turn answered .loop .inv) (omega arith) (sym (c .enum-told .given .1) ∙ advance-read _ _ _ (answered .read-line .ensures))
 
 accept-line-requires : tie.Need-accept-line-requires Inv-loop μ-loop
 accept-line-requires c κs = turn (c .before .before .before) .loop .inv .places
@@ -68,7 +66,7 @@ proposal-here : (c : tie.After-known-told2 Inv-loop μ-loop) → c .before .coun
 proposal-here c =
     let taken = c .before .before .before in
     let line = taken .before .before in
-    proposal-place _ _ _ _ _ (turn (line .before .before) .loop .inv) _ _ _ _ (line-here line) _ (taken .accept-line .ensures) (c .before .count .given .1)
+    proposal-place _ _ _ _ _ _ (turn (line .before .before) .loop .inv) _ _ _ _ (line-here line) _ (taken .accept-line .ensures) (c .before .count .given .1)
 
 cast-values : tie.Need-cast-values Inv-loop μ-loop
 cast-values c = let inside = proposal-here c in omega arith
@@ -88,7 +86,7 @@ crash-here c =
     let taken = c .before .before .before .before in
     let line = taken .before .before in
     let here = turn (line .before .before) .loop .inv in
-    let inside = crash-place _ _ _ _ _ here _ _ _ _ (line-here line) _ (taken .accept-line .ensures) (c .before .before .lines .given .1) in
+    let inside = crash-place _ _ _ _ _ _ here _ _ _ _ (line-here line) _ (taken .accept-line .ensures) (c .before .before .lines .given .1) in
     omega (arith, inside .first, inside .last, here .few)
 
 sub-i : tie.Need-sub-i Inv-loop μ-loop
@@ -122,10 +120,10 @@ returns-3 : tie.Need-returns-3 Inv-loop μ-loop
 returns-3 c =
     let taken = c .before .before .before in
     let line = taken .before .before in
-    reached-refused _ _ _ _ _ (turn (line .before .before) .loop .inv) _ _ _ _ (line-here line) _ (taken .accept-line .ensures) (c .before .number .given .1)
+    reached-refused _ _ _ _ _ _ (turn (line .before .before) .loop .inv) _ _ _ _ (line-here line) _ (taken .accept-line .ensures) (c .before .number .given .1)
 
 add-k : tie.Need-add-k Inv-loop μ-loop
-add-k c = search needs
+add-k c = let here = turn (c .before .before .before .before .before) .loop .inv in omega (arith, few-lines _ _ _ (here .places) (here .counted))
 
 loop-less : tie.Need-loop-less Inv-loop μ-loop
 loop-less c = let line = line-here (c .before .before .before) in omega arith
@@ -137,10 +135,10 @@ loop-again c =
     let here = turn (line .before .before) .loop .inv in
     let said = taken .accept-line .ensures in
     ⊎-elim
-    (λ w. same-place (w .3) (w .4) (w .5) (w .6) (w .7) (w .8) (reached-proposal _ _ _ _ _ here _ _ _ _ (line-here line) _ said (w .1 .given .1)))
+    (λ w. same-place (w .3) (w .4) (w .5) (w .6) (w .7) (w .8) (reached-proposal _ _ _ _ _ _ here _ _ _ _ (line-here line) _ said (w .1 .given .1)))
     (⊎-elim
-    (λ w. same-place (w .4) (w .5) (w .6) (w .7) (w .8) (w .9) (reached-crash _ _ _ _ _ here _ _ _ _ (line-here line) _ said (w .1 .given .1)))
-    (λ w. same-place (w .2) (w .3) (w .4) (w .5) (w .6) (w .7) (reached-ended _ _ _ _ _ here _ _ _ _ (line-here line) _ said (w .1 .given .1))))
+    (λ w. same-place (w .4) (w .5) (w .6) (w .7) (w .8) (w .9) (reached-crash _ _ _ _ _ _ here _ _ _ _ (line-here line) _ said (w .1 .given .1)))
+    (λ w. same-place (w .2) (w .3) (w .4) (w .5) (w .6) (w .7) (reached-ended _ _ _ _ _ _ here _ _ _ _ (line-here line) _ said (w .1 .given .1))))
     (c .match2 .came)
 
 pub read-rest-spec : {M : Type 1} → statement M
@@ -149,11 +147,10 @@ read-rest-spec =
     (tie.spec
     Inv-loop
     μ-loop
-    digit-table-requires
     loop-holds
     at-end-requires
     returns
-    read-line-by-table-requires
+    read-line-requires
     enum-known-line
     enum-told
     returns-2

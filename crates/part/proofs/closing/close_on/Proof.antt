@@ -2,7 +2,7 @@
 use borrow.Author.Needs.{needs}
 use native.Mathlib.Omega.{arith}
 use mathlib.Core.Path.{ap, _∙_}
-use Rattle.part_frames.specs.Heard.{messagesAs}
+use Rattle.part_frames.specs.code.Heard.{messagesAs}
 use Rattle.part.proofs.Closed.{closed-own, closed-nothing, closed-data, closed-commit}
 use Rattle.part.proofs.closing.close_on.Statement.{statement}
 use Rattle.part.proofs.closing.close_on.Tie as tie

@@ -1,0 +1,2 @@
+pub mod CrashSets
+pub mod CrashCountOver

@@ -1,0 +1,3 @@
+pub mod InstanceOfTable
+pub mod RunOfTable
+pub mod InitialTable
