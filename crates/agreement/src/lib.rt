@@ -93,8 +93,8 @@ pub extern "C" fn uc_price(state: &[u8], costs: &[u64], quote: &mut u64) -> u64
 {
     let reply = part_price::quote_own(state, costs);
     match reply {
-        Reply::Given(pence) => {
-            *quote = pence;
+        Reply::Given(price) => {
+            *quote = price;
             0
         }
         Reply::Refused(number, _) => number as u64,

@@ -18,7 +18,12 @@ use Rattle.ticket_laws.specs.RefusedTexts.{RefusedTexts}
 use Rattle.ticket_laws.specs.TextsJudged.{TextsJudged}
 use Rattle.part_format.specs.Refused.{RefusedCallsChangeNothing, SpeakAnswersApart}
 use Rattle.part_laws.specs.PartCalls.{PartCalls}
+use Rattle.answers.specs.Reason.{reason}
+use Rattle.answers.specs.Reply.{answerBy, Ran, Explained}
+use Rattle.answers.specs.declared.Reply.{Reply}
+use Rattle.answers.specs.declared.Reply.the-variants.{Refused}
 use Rattle.answers.specs.Code.{refusalsFrom, refusalCode, RunCall, numberCode}
+use Rattle.pricing_format.specs.Quoting.{quoting}
 
 -- Running a text into a buffer of `room` bytes is refused with this number and line. The cause is its first wrong line; or, with 9 and no line, want of room.
 pub data RunRefused (text : List ℕ) (room : ℕ) : (refusal line : ℕ) → Type 0 where
@@ -39,10 +44,19 @@ pub data SettleAnswered (text : List ℕ) (code : ℕ) : Type 0 where
   round : (x : Instance) → TicketOf x text → code ≡ firstSettling x → code < refusalsFrom → SettleAnswered text code
   refusal : (number line : ℕ) → FirstWrong text number line → code ≡ refusalCode number line → refusalsFrom ≤ code → SettleAnswered text code
 
+-- What the library's own operations reply to a text that is refused with this number and line; those that write leave the buffer as it was.
+pub record Replied (text : List ℕ) (number line : ℕ) : Type 0 where
+  pub ran : (before after : List ℕ) (reply : Reply) → Ran text before after reply → (reply ≡ Refused number line) × (after ≡ before)
+  pub settled : (reply : Reply) → answerBy reply ≡ settling text → reply ≡ Refused number line
+  pub reasoned : (p r : ℕ) (reply : Reply) → answerBy reply ≡ reason text p r → reply ≡ Refused number line
+  pub explained : (before after : List ℕ) (reply : Reply) → Explained text before after reply → (reply ≡ Refused number line) × (after ≡ before)
+  pub quoted : (costs : List ℕ) (p : ℕ) (reply : Reply) → answerBy reply ≡ quoting text costs p → reply ≡ Refused number line
+
 -- Of tickets: every text and every buffer gets its answer.
 pub record TicketsAnswered : Type 0 where
   pub run : (text before after : List ℕ) (code : ℕ) → RunCall text before after code → RunAnswered text before after code
   pub settle : (text : List ℕ) (code : ℕ) → code ≡ numberCode (settling text) → SettleAnswered text code
+  pub replied : (text : List ℕ) (number line : ℕ) → FirstWrong text number line → Replied text number line
   -- the program writes the refusal's line, which says its number and its line
   pub program : (text : List ℕ) (number line : ℕ) → FirstWrong text number line
       → (programWrites text ≡ refusalLine number line) × (refusalSaid (programWrites text) ≡ some (record { refusal = number; line = line }))

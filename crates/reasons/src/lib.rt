@@ -100,6 +100,6 @@ pub fn all_reasons(text: &[u8], out: &mut [u8]) -> Reply
             );
             Reply::Given(size as u64)
         }
-        TicketAnswer::Refused(number, line) => Reply::Refused(number, line),
+        TicketAnswer::Refused(refusal, line) => Reply::Refused(refusal, line),
     }
 }

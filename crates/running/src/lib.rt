@@ -136,6 +136,6 @@ pub fn settle(text: &[u8]) -> Reply
             let round = settling_round(n, t, values, &crash_rounds, &steps, &reached, &counts);
             Reply::Given(round as u64)
         }
-        TicketAnswer::Refused(number, line) => Reply::Refused(number, line),
+        TicketAnswer::Refused(refusal, line) => Reply::Refused(refusal, line),
     }
 }
