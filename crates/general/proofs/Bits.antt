@@ -108,13 +108,6 @@ module _ (p : ℕ) (positive : 1 ≤ p) (small : p ≤ 64) where
   double : 2 ^ p ≡ 2 ^ (p - 1) * 2
   double = let e : p ≡ suc (p - 1) = omega arith in ap (λ (k : ℕ). 2 ^ k) e ∙ pow-suc 2 (p - 1)
 
-  -- Process p alone, by a shift by p - 1: the highest bit of the mask.
-  pub highest : 1 * 2 ^ (p - 1) % 2 ^ 64 ≡ 2 ^ (p - 1)
-  highest = omega (arith, highest_fits)
-
-  pub highest_positive : 1 ≤ 1 * 2 ^ (p - 1) % 2 ^ 64
-  highest_positive = omega (arith, highest_fits, pow_pos (p - 1))
-
   -- The mask, made by a shift by p - 1 and one by 1.
   pub first_mask : (1 * 2 ^ (p - 1) % 2 ^ 64 - 1) * 2 ^ 1 % 2 ^ 64 + 1 ≡ 2 ^ p - 1
   first_mask = omega (arith, highest_fits, double, pow_pos (p - 1))

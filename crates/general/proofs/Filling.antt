@@ -109,9 +109,6 @@ pub record Underway (members x : ℕ) (before now : List ℕ) (left : ℕ) : Typ
   pub comes : filled left x now ≡ filled members x before
   pub word : left < 2 ^ 64
 
-pub lowest_inside : (left : ℕ) → 0 < left → left < 2 ^ 64 → count_trailing_zeros 64 left < 64
-lowest_inside left some word = (lowest 64 left some word).inside
-
 module _ (members x : ℕ) (before now : List ℕ) (left : ℕ) (way : Underway members x before now left) where
   -- One turn of the loop.
   pub one_filled : 0 < left → Underway members x before (set now (count_trailing_zeros 64 left) x) (bit_and left (left - 1))

@@ -1,5 +1,5 @@
--- Counts by process: what one process has, one of them raised, and the sum over processes; the sum of a list (document 02, Paper 2: "The counts over all stations add up").
-use Rattle.std.specs.Prelude.{List, [], ◌∷◌, ℕ, zero, suc, ◌+◌, ◌-◌, cond, eqb, get_or}
+-- Counts by process: what one process has, one of them raised, and the sum over processes (document 02, Paper 2: "The counts over all stations add up").
+use Rattle.std.specs.Prelude.{List, ℕ, zero, suc, ◌+◌, ◌-◌, cond, eqb, get_or}
 use Rattle.general.specs.Indexed.{map_from}
 
 -- The count of process p, at place p - 1.
@@ -14,8 +14,3 @@ add_at p d counts = map_from (λ q count. cond (eqb q p) (count + d) count) 1 co
 unfoldable pub sum_to : (ℕ → ℕ) → (n : ℕ) → ℕ
 sum_to f zero = 0
 sum_to f (suc n) = sum_to f n + f (suc n)
-
--- The sum of a list.
-unfoldable pub sum_of : List ℕ → ℕ
-sum_of [] = 0
-sum_of (k ∷ numbers) = k + sum_of numbers
