@@ -1,4 +1,6 @@
 // The module's C interface (include/agreement.h): every call total on every input, its answer a documented number.
+#![tactic(auto)]
+
 ghost use Rattle.std.specs.Prelude.{◌≡◌, length, ◌+◌, ◌*◌};
 ghost use Rattle.part_format.specs.Start.{start_refusal, start_bytes};
 ghost use Rattle.part_format.specs.Speak.{speak_answer, speak_output};

@@ -1,4 +1,4 @@
--- A C caller can tell answers apart by their numbers (`codes-apart`). Assumes nothing.
+-- A C caller can tell answers apart by their numbers (`codes_apart`). Assumes nothing.
 use mathlib.Core.List.{List}
 use mathlib.Core.Logic.{inl, inr}
 use mathlib.Core.Path.{◌≡◌, refl}

@@ -1,6 +1,6 @@
 -- The sets of the processes that have the same crash round, process by process. Assumes nothing.
 use mathlib.Core.List.{List}
-use mathlib.Core.Path.{◌≡◌, refl, sym, ap, ◌∙◌}
+use mathlib.Core.Path.{◌≡◌, refl, sym, ◌∙◌}
 use mathlib.Core.Bool.{Bool, cond}
 use Prim.Native.Nat.{ℕ, zero, suc, ◌+◌, ◌-◌, ◌*◌, ◌^◌, ◌≤◌, ◌<◌}
 use native.Mathlib.Omega.{arith}
@@ -78,9 +78,3 @@ module _ (n : ℕ) (rounds sets : List ℕ) (p : ℕ) (so_far : PutBelow n round
       other : (r : ℕ) → 1 ≤ r → r ≤ 64 → (own ≡ r → ⊥)
           → get_or (set sets (own - 1) (bit_or (get_or sets (own - 1) 0) bit)) (r - 1) 0 ≡ set_of p (λ q. eqb (get_or rounds (q - 1) 0) r)
       other r h g ne = get_or-set_other sets (own - 1) (r - 1) _ 0 (λ same. ne (omega arith)) ∙ not_in r ne h g
-
--- When all have been put, the sets are those of n.
-pub all_put : (n : ℕ) (rounds sets : List ℕ) (p : ℕ) → PutBelow n rounds sets p → n < p → CrashSets n rounds sets
-all_put n rounds sets p so_far above r h g =
-    let count : p - 1 ≡ n = omega arith in
-    so_far.put r h g ∙ ap (λ (k : ℕ). set_of k (λ q. eqb (get_or rounds (q - 1) 0) r)) count

@@ -46,9 +46,6 @@ pub record CountedBelow (n : ℕ) (rounds ends end_rounds : List ℕ) (f p : ℕ
   pub rest : f + rest_count (faults_by n rounds) (states_by n ends end_rounds) p ≡ crash_count_over n rounds ends end_rounds
 
 module _ (n : ℕ) (rounds ends end_rounds : List ℕ) where
-  pub counted_none : CountedBelow n rounds ends end_rounds 0 1
-  counted_none = record { first = omega arith; last = omega arith; at_most = omega arith; rest = omega arith }
-
   module _ (faults : n ≤ length rounds) where
     as_many : length (faults_by n rounds) ≡ n
     as_many = length-pattern (table_of n 0 [] rounds [] [] []) faults

@@ -1,11 +1,16 @@
 // Who crashes in which round, and f: the failure lines that are not idle (document 01, 'A round').
+#![tactic(auto)]
+
 ghost use Rattle.std.specs.Prelude.{◌≡◌, ◌≤◌, length};
 ghost use Rattle.coordinator_crashes.specs.code.CrashSets.{CrashSets};
 ghost use Rattle.coordinator_crashes.specs.code.CrashCountOver.{crash_count_over};
 
 use coordinator_sending::count;
 
-// The sets of the processes, of n, that have the same crash round, that of round r at place r - 1. No run has a round above 64.
+// No run has a round above this.
+const LAST_ROUND: u8 = 64;
+
+// The sets of the processes, of n, that have the same crash round, that of round r at place r - 1.
 pub fn crash_sets(n: u8, crash_rounds: &[u8; 64]) -> [u64; 64]
     requires { n ≤ 64 }
     ensures { CrashSets n crash_rounds.now result }
@@ -15,7 +20,7 @@ pub fn crash_sets(n: u8, crash_rounds: &[u8; 64]) -> [u64; 64]
     while p <= n {
         let own = crash_rounds[(p - 1) as usize];
         if 0 < own {
-            if own <= 64 {
+            if own <= LAST_ROUND {
                 let i = (own - 1) as usize;
                 by_round[i] = by_round[i] | sets::only(p);
             }

@@ -1,4 +1,4 @@
--- The bound by speakers (specs/SpeakerBound): the data by an induction on the rounds, the commits by `speakers-with-commits`. For well-formed instances.
+-- The bound by speakers (specs/SpeakerBound): the data by an induction on the rounds, the commits by `speakers_with_commits`. For well-formed instances.
 -- Assumes nothing else.
 use mathlib.Core.Path.{◌≡◌, refl, subst, ◌∙◌}
 use mathlib.Core.Bool.{Bool, true, false}

@@ -1,4 +1,4 @@
--- Demand 3, second half (`no-later`): with more commits sent, every process decides no later and on the same value (document 01, 'A round', last paragraph).
+-- Demand 3, second half (`no_later_lem`): with more commits sent, every process decides no later and on the same value (document 01, 'A round', last paragraph).
 -- Both runs are taken side by side, round by round: the states of each process stay related (PairRelation, PairRound). Assumes nothing.
 use mathlib.Core.Path.{◌≡◌, refl, ◌∙◌}
 use Prim.Native.Nat.{ℕ, zero, suc, ◌≤◌}

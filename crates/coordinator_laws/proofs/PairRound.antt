@@ -1,4 +1,4 @@
--- One round of two runs side by side: related states stay related (`round-related`). It is stated of plain states, of the process and of the
+-- One round of two runs side by side: related states stay related (`round_related`). It is stated of plain states, of the process and of the
 -- coordinator as the round begins, in the first run and in the second. The two facts that it needs of the second run are its premises; Pair supplies them.
 -- Assumes nothing.
 use mathlib.Core.Path.{◌≡◌, refl}

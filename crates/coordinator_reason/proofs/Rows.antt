@@ -3,7 +3,7 @@ use mathlib.Core.List.{List, ◌++◌}
 use mathlib.Core.Path.{◌≡◌, ap, ap₂, ◌∙◌}
 use Prim.Native.Nat.{ℕ, zero, suc, ◌+◌, ◌-◌, ◌*◌, ◌≤◌, ◌<◌}
 use native.Mathlib.Omega.{arith}
-use native.Mathlib.Nat.{le_trans, mul-le-mul, mul-le-mul_right}
+use native.Mathlib.Nat.{le_trans, mul-le-mul_right}
 use borrow.Rule.Slice.PartMut.{mid_of, put_mid}
 use lib.ListN.{length, drop, get_or, length-append, length-drop}
 use Rattle.general.proofs.Table.{length-tabulate}
@@ -11,9 +11,6 @@ use Rattle.general.proofs.Overwrite.{put_part}
 use Rattle.coordinator_reason.specs.code.ByEnds.{row_by_ends, rows_by_ends}
 
 -- Where the row behind i others begins, and that it fits where all rows do.
-pub small_product : (i n : ℕ) → i ≤ 64 → n ≤ 64 → i * n ≤ 4096
-small_product i n h g = let most : i * n ≤ 64 * 64 = mul-le-mul h g in most
-
 pub next_fits : (i rounds n room : ℕ) → i < rounds → rounds * n ≤ room → suc i * n ≤ room
 next_fits i rounds n room h fits = le_trans (mul-le-mul_right n h) fits
 

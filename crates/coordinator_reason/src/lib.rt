@@ -1,4 +1,6 @@
 // The reason of each process in each round (document 02, Paper 7), read off how the processes of a whole run end: no round is run again.
+#![tactic(auto)]
+
 ghost use Rattle.std.specs.Prelude.{◌≡◌, ◌++◌, ◌-◌, ◌*◌, ◌≤◌, length, drop, get_or};
 ghost use Rattle.coordinator_reason.specs.code.ByEnds.{reason_waiting, reason_ending, reason_by_end, row_by_ends, rows_by_ends};
 

@@ -12,7 +12,6 @@ use Rattle.general.specs.Bits.{member, ones64, members_to, set_of}
 use Rattle.general.proofs.Bits.{ones64_members}
 use Rattle.general.proofs.Indexed.{length-map_from}
 use Rattle.general.proofs.Sets.{member_set}
-use Rattle.general.proofs.Tests.{cond_le}
 use Rattle.coordinator.specs.Message.{Reach, nothing, arriving, gets_data, gets_commit}
 use Rattle.coordinator.specs.Transition.{sends}
 use Rattle.consensus.specs.Instance.{Instance, Fault, fault_of}
@@ -114,7 +113,3 @@ pub round_from : (n r : ℕ) (fault : Fault) (faulty : ℕ) (run next : RunTable
     → Stored r sent faulty run next speakers → RoundRun n r fault faulty run next
 round_from n r fault faulty run next sized allowed sent of-sent speakers of-speakers stored =
     round_done n r fault faulty run next sized allowed (rw (of-sent, of-speakers) at stored)
-
--- A coordinator is one speaker at most.
-pub at_most_one : (r undecided k : ℕ) → k ≡ cond (member r undecided) 1 0 → k ≤ 1
-at_most_one r undecided k e = rw e (cond_le (member r undecided) 1 0 1 (omega arith) (omega arith))

@@ -1,4 +1,6 @@
 // One round of all processes (document 01, 'A round'): the run as it begins goes in by value and comes back as it ends.
+#![tactic(auto)]
+
 ghost use Rattle.tables.specs.code.InstanceOfTable.{fault_from};
 ghost use Rattle.coordinator_round.specs.code.Round.{RoundAllowed, RoundRun};
 

@@ -10,7 +10,7 @@ use Rattle.general.specs.Counts.{count_of, add_at}
 use Rattle.general.proofs.Lists.{take-replicate}
 use Rattle.general.proofs.Counts.{stored_first}
 use Rattle.consensus.specs.Instance.{Instance}
-use Rattle.consensus.specs.State.{State, undecided}
+use Rattle.consensus.specs.State.{State}
 use Rattle.coordinator.specs.Count.{data_in, commits_in}
 use Rattle.coordinator.specs.Run.{Run, with_round, run_to}
 use Rattle.coordinator.specs.SentBy.{sent_after}

@@ -2,6 +2,8 @@
 // run has settled (document 02, Paper 6).
 // The instance's arrays are lent; the run is a table by value that goes through each round and comes back. What counts of what each process sends is
 // kept beside it, in two lent arrays (document 02, Papers 2 and 4).
+#![tactic(auto)]
+
 ghost use Rattle.coordinator.specs.WellFormed.{WellFormed};
 ghost use Rattle.tables.specs.code.InstanceOfTable.{table_of, instance_of};
 ghost use Rattle.coordinator_run.specs.code.Running.{NoneSent, RunOf};

@@ -1,4 +1,6 @@
 // The messages of a round as sets of processes, and what is counted of it (document 01, 'A round'). Numbers and masks alone: no table.
+#![tactic(auto)]
+
 ghost use Rattle.std.specs.Prelude.{◌≡◌, true, ◌≤◌};
 ghost use Rattle.general.specs.Bits.{member};
 ghost use Rattle.consensus.specs.Instance.{crashes, point_from};
@@ -9,7 +11,7 @@ ghost use Rattle.coordinator_sending.specs.code.Sending.{sending_by, SendingAllo
 pub mod count;
 
 // Whom the messages of a round reach: the coordinator itself, which decides its own value, those that its data get to and those that its commits get to.
-#[derive(Drop)]
+#[derive(Clone, Copy)]
 pub struct Sent {
     pub coordinator: u64,
     pub reached: u64,

@@ -1,4 +1,6 @@
 // Whether a run has settled (document 01, 'The result', last paragraph: "all stations not dark hold one value").
+#![tactic(auto)]
+
 ghost use Rattle.std.specs.Prelude.{◌≡◌, ◌≤◌, length};
 ghost use Rattle.coordinator.specs.Settling.{values_held, one_value};
 ghost use Rattle.tables.specs.code.RunOfTable.{states_in};
@@ -18,7 +20,8 @@ pub fn hold_one_value(n: u8, run: RunTable) -> bool
     let mut p: u8 = 1;
     while p <= n {
         let i = (p - 1) as usize;
-        if ends[i] < tables::CRASHED {
+        let holds = ends[i] < tables::CRASHED;
+        if holds {
             let own = values[i];
             if known {
                 if own != value {

@@ -1,4 +1,4 @@
--- Demand 2, second half, and demand 3 of separate parts, of every accepted text (`parts-claim`): an accepted text states a well-formed instance.
+-- Demand 2, second half, and demand 3 of separate parts, of every accepted text (`parts_claim`): an accepted text states a well-formed instance.
 -- Assumes nothing.
 use Rattle.ticket_laws.proofs.WellFormed.{accepted_well_formed}
 use Rattle.part_host.proofs.Calls.{output_yielded_lem}

@@ -1,4 +1,6 @@
 // The table of digit values (document 02, Paper 3).
+#![tactic(auto)]
+
 ghost use Rattle.std.specs.Prelude.{◌≡◌, get_or};
 ghost use Rattle.text.specs.Digit.{digit_table};
 

@@ -1,4 +1,6 @@
 // The lines of a text: a cursor that reads one line by the table of digit values, once, into numbers.
+#![tactic(auto)]
+
 ghost use Rattle.std.specs.Prelude.{◌≡◌, ◌<◌, length};
 ghost use Rattle.text.specs.Digit.{digit_table};
 ghost use Rattle.lines.specs.code.Read.{read_at};
@@ -15,7 +17,7 @@ fn wide(x: u8) -> u64
 }
 
 // How far the digits of a line make bytes, and the last sixteen of these bytes as two words.
-#[derive(Drop)]
+#[derive(Clone, Copy)]
 struct Digits {
     end: usize,
     head: u64,
@@ -45,13 +47,13 @@ fn read_digits(values: &[u8; 256], text: &[u8], at: usize) -> Digits
 }
 
 // The place at which the next line begins.
-#[derive(Drop)]
+#[derive(Clone, Copy)]
 pub struct Cursor {
     pub at: usize,
 }
 
 // What reading a line answers.
-#[derive(Drop)]
+#[derive(Clone, Copy)]
 pub enum LineRead {
     // A line of `size` bytes, the last sixteen of them as two words; `next` is past its 0A.
     Line {

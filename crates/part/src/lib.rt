@@ -1,5 +1,7 @@
 // The process part: starting, speaking and closing a round over nine lent bytes (document 01, 'The desk part' and 'Refused calls').
 // Each operation is total. Its answer and every byte afterwards, on refusals too, are given by the definitions of part_format.
+#![tactic(auto)]
+
 mod closing;
 
 ghost use Rattle.std.specs.Prelude.{◌≡◌, length};

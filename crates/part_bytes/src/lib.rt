@@ -1,4 +1,6 @@
 // Numbers as four bytes at a place, most significant byte first (document 01, 'The desk part': the value of a state and of a data frame).
+#![tactic(auto)]
+
 ghost use Rattle.std.specs.Prelude.{◌≡◌, [], ◌∷◌, ◌+◌, ◌≤◌, length, take, drop};
 ghost use Rattle.std.proofs.lemmas.List.Edits.{sets};
 ghost use Rattle.general.specs.BigEndian.{number, bytes_of};

@@ -1,4 +1,4 @@
--- The premises of the claims on refused and on accepted calls are met by one state (`premises-met`): computed. Assumes nothing.
+-- The premises of the claims on refused and on accepted calls are met by one state (`premises_met`): computed. Assumes nothing.
 use native.Mathlib.Omega.{arith}
 use Rattle.general.specs.BigEndian.{number, number_from, bytes_of}
 use Rattle.consensus.specs.Instance.{within_limits}

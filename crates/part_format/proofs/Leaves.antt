@@ -1,4 +1,4 @@
--- What an accepted start and an accepted close leave: nine bytes of a valid state again (`leaves-valid`). Assumes nothing.
+-- What an accepted start and an accepted close leave: nine bytes of a valid state again (`leaves_valid`). Assumes nothing.
 use mathlib.Core.Path.{◌≡◌, refl, sym}
 use mathlib.Core.List.{List}
 use mathlib.Core.Option.{Option, some, none}

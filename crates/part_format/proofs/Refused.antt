@@ -1,4 +1,4 @@
--- Refused calls change nothing (`refused-change-nothing`), and answers of speaking are told apart (`speak-answers-apart`). Assumes nothing.
+-- Refused calls change nothing (`refused_change_nothing`), and answers of speaking are told apart (`speak_answers_apart`). Assumes nothing.
 use mathlib.Core.List.{List}
 use mathlib.Core.Logic.{◌⊎◌, inl, inr}
 use mathlib.Core.Option.{Option, some, none}

@@ -1,4 +1,6 @@
 // The frames of a round's messages (document 01, 'The desk part': "nothing, data, or data then commit"): read and written.
+#![tactic(auto)]
+
 ghost use Rattle.std.specs.Prelude.{◌≡◌, ◌++◌, ◌&&◌, ◌+◌, ◌≤◌, length, get_or, drop, eqb};
 ghost use Rattle.coordinator.specs.Message.{estimate_and_commit};
 ghost use Rattle.part_format.specs.PartState.{state_from};
@@ -30,7 +32,7 @@ const COMMIT_AT: usize = 6;
 const COMMIT_ROUND_AT: usize = 7;
 
 // The messages of a round.
-#[derive(Drop)]
+#[derive(Clone, Copy)]
 pub enum Messages {
     Nothing,
     Estimate(u32),
@@ -38,7 +40,7 @@ pub enum Messages {
 }
 
 // What bytes heard are: one of the three forms, or none of them.
-#[derive(Drop)]
+#[derive(Clone, Copy)]
 pub enum Heard {
     Form(Messages),
     NoForm,

@@ -1,5 +1,5 @@
--- Demand 2, second half: separate parts, fed the frames that the failure pattern lets through, decide as the processes of the run do (`parts-decide-alike`);
--- and no call to an open part is refused (`none-refused`). By induction over the rounds. For well-formed instances. Assumes nothing else.
+-- Demand 2, second half: separate parts, fed the frames that the failure pattern lets through, decide as the processes of the run do (`parts_decide_alike`);
+-- and no call to an open part is refused (`none_refused_lem`). By induction over the rounds. For well-formed instances. Assumes nothing else.
 use mathlib.Core.List.{List}
 use mathlib.Core.Path.{◌≡◌, refl, sym, ◌∙◌}
 use mathlib.Core.Bool.{true, false}

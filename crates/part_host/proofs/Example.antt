@@ -1,4 +1,4 @@
--- Case 1 of document 01 by separate parts: the host's definitions compute (`case1-parts`), and the premises of the claims on parts are met (`premises-met`).
+-- Case 1 of document 01 by separate parts: the host's definitions compute (`case1_parts`), and the premises of the claims on parts are met (`premises_met`).
 -- Assumes nothing.
 use mathlib.Core.List.{[]}
 use mathlib.Core.Path.{◌≡◌, refl}

@@ -1,5 +1,5 @@
 -- The nine bytes that a host keeps of a part: at the end they are a valid state, and say of a process that decided that it has, and of one that crashed that it
--- has not (`kept-decided`, `kept-crashed`); and where they say after some rounds that a process has decided, it ends so (`kept-since`). For well-formed instances. Assumes nothing else.
+-- has not (`kept_decided`, `kept_crashed`); and where they say after some rounds that a process has decided, it ends so (`kept_since`). For well-formed instances. Assumes nothing else.
 use mathlib.Core.List.{List}
 use mathlib.Core.Path.{◌≡◌, refl, sym, ap, ◌∙◌}
 use Prim.Native.Nat.{ℕ, suc, ◌≤◌, ◌<◌}

@@ -1,5 +1,5 @@
--- Demand 3 of separate parts (`parts-consensus`, `parts-no-later`): read by their own nine bytes they are the states of the run after every round
--- (`parts-read`), so what is proved of the run is true of them. For well-formed instances. Assumes nothing else.
+-- Demand 3 of separate parts (`parts_consensus`, `parts_no_later_lem`): read by their own nine bytes they are the states of the run after every round
+-- (`parts_read`), so what is proved of the run is true of them. For well-formed instances. Assumes nothing else.
 use mathlib.Core.List.{List, [], map}
 use mathlib.Core.Path.{◌≡◌, refl, sym, ap, fun_ext, ◌∙◌}
 use Prim.Native.Nat.{ℕ, suc, ◌-◌, ◌^◌, ◌≤◌, ◌<◌}

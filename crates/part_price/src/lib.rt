@@ -1,4 +1,6 @@
 // The quote of a process part by its own nine bytes (document 02, Paper 9; docs/DECISIONS.md, P9.2). Total on every state and every list of costs.
+#![tactic(auto)]
+
 ghost use Rattle.std.specs.Prelude.{◌≡◌};
 ghost use Rattle.answers.specs.Reply.{answer_by};
 ghost use Rattle.pricing_format.specs.OwnQuote.{own_quote};

@@ -1,5 +1,5 @@
 -- Paper 14 on one tender: every schedule in order leaves what the base's host has after as many rounds, by induction over the rounds; so it ends as the run says
--- (`any_order`, `orders-no-later`). For well-formed instances. Assumes nothing else.
+-- (`any_order_lem`, `orders_no_later_lem`). For well-formed instances. Assumes nothing else.
 use mathlib.Core.List.{List, [], ◌∷◌, ◌++◌, map}
 use mathlib.Core.Bool.{true}
 use mathlib.Core.Path.{◌≡◌, refl, sym, ap, ◌∙◌}

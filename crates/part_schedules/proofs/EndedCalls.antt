@@ -1,4 +1,4 @@
--- Calls of a process that is up and not open change nothing, wherever they stand, and it keeps its bytes (`ended-calls`). Assumes nothing.
+-- Calls of a process that is up and not open change nothing, wherever they stand, and it keeps its bytes (`ended_calls_lem`). Assumes nothing.
 use mathlib.Core.List.{List, [], ◌∷◌, ◌++◌, map}
 use mathlib.Core.Path.{◌≡◌, refl, sym, ap, subst, ◌∙◌}
 use mathlib.Core.Bool.{Bool, true, false, cond, ◌||◌}
@@ -97,6 +97,8 @@ module _ (x : Instance) (h : Hosted) (p : ℕ) (b : List ℕ) (ended : Ended h p
         parts = unchanged_at p _ h.parts (rw (ended.kept, closed_stays b ended.not_open _) refl);
         heard = λ r q. refl;
       }
+  call_same (start _) other = elim other [ ]
+  call_same round_over other = elim other [ ]
 
   left_out_lem : (one : Step) → CallOf p one → (steps : List Step)
       → ((play x (one ∷ steps) h).parts ≡ (play x steps h).parts) × (all_answers x (step x one h) steps ≡ all_answers x h steps)

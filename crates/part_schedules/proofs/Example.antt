@@ -1,5 +1,5 @@
--- Marked cases of document 01 in other orders, and case 1 beside case 5 with the calls of both mixed: the definitions compute (`ends-alike`, `calls-answered`), and the premises
--- of the claims on schedules are met (`premises-met`). Assumes nothing.
+-- Marked cases of document 01 in other orders, and case 1 beside case 5 with the calls of both mixed: the definitions compute (`ends_alike`, `calls_answered`), and the premises
+-- of the claims on schedules are met (`premises_met`). Assumes nothing.
 use mathlib.Core.List.{List, [], ◌∷◌, ◌++◌}
 use mathlib.Core.Path.{◌≡◌, refl, sym, subst}
 use mathlib.Core.Bool.{Bool, true, false, not, ◌&&◌, ◌||◌}

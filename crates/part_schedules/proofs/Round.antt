@@ -1,4 +1,4 @@
--- One round in whatever order leaves what the base's host has after that round (`round-in-order`). For well-formed instances. Assumes nothing else.
+-- One round in whatever order leaves what the base's host has after that round (`round_in_order`). For well-formed instances. Assumes nothing else.
 use mathlib.Core.List.{List, [], ◌∷◌, ◌++◌, map}
 use mathlib.Core.Path.{◌≡◌, refl, sym, ap, subst, ◌∙◌}
 use mathlib.Core.Bool.{Bool, true, false, ◌&&◌}

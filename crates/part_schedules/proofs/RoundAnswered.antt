@@ -1,4 +1,4 @@
--- What the calls of a round in order are answered (`round-answered`). For well-formed instances. Assumes nothing else.
+-- What the calls of a round in order are answered (`round_answered`). For well-formed instances. Assumes nothing else.
 use mathlib.Core.List.{List, [], ◌∷◌, ◌++◌, map}
 use mathlib.Core.Logic.{◌⊎◌, inl, inr}
 use mathlib.Core.Path.{◌≡◌, refl, sym, ap, subst, ◌∙◌}

@@ -1,4 +1,4 @@
--- Parts that are started in whatever order are those of the base's host before round 1 (`started-in-order`). For well-formed instances. Assumes nothing else.
+-- Parts that are started in whatever order are those of the base's host before round 1 (`started_in_order`). For well-formed instances. Assumes nothing else.
 use mathlib.Core.List.{List, [], map}
 use mathlib.Core.Path.{◌≡◌, refl, sym, ap, ◌∙◌}
 use Prim.Native.Nat.{ℕ, ◌-◌}

@@ -1,4 +1,4 @@
--- What starts are answered, in whatever order (`starts-answered`). For well-formed instances. Assumes nothing else.
+-- What starts are answered, in whatever order (`starts_answered`). For well-formed instances. Assumes nothing else.
 use mathlib.Core.List.{List, [], ◌∷◌, ◌++◌, map}
 use mathlib.Core.Path.{◌≡◌, refl, ap, ◌∙◌}
 use Prim.Native.Nat.{ℕ, ◌≤◌}

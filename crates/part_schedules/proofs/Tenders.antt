@@ -1,4 +1,4 @@
--- Paper 14 on several tenders: each is left, and its calls are answered, as if its steps were made alone (`tenders-apart`). Assumes nothing.
+-- Paper 14 on several tenders: each is left, and its calls are answered, as if its steps were made alone (`tenders_apart`). Assumes nothing.
 use mathlib.Core.List.{List, [], ◌∷◌, ◌++◌, append_assoc, append-nil}
 use mathlib.Core.Path.{◌≡◌, refl, sym, ap, ◌∙◌}
 use mathlib.Core.Bool.{Bool, true, false, cond}

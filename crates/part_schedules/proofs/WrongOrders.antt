@@ -1,4 +1,4 @@
--- What becomes of orders that Paper 14 does not allow (`wrong-orders`), by computing. Assumes nothing.
+-- What becomes of orders that Paper 14 does not allow (`wrong_orders`), by computing. Assumes nothing.
 use mathlib.Core.Path.{refl}
 use Rattle.general.specs.BigEndian.{number, number_from, bytes_of}
 use Rattle.general.specs.Indexed.{map_from}

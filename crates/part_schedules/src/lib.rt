@@ -1,1 +1,2 @@
 // Definitions and proofs only: specs/ and proofs/.
+#![tactic(auto)]

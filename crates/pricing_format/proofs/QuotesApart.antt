@@ -1,4 +1,4 @@
--- A C caller can tell quotes from refusals (`quotes-apart`). Assumes nothing.
+-- A C caller can tell quotes from refusals (`quotes_apart`). Assumes nothing.
 use mathlib.Core.List.{List}
 use mathlib.Core.Logic.{inl, inr}
 use mathlib.Core.Option.{Option, some, none}

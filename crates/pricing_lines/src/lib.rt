@@ -1,4 +1,6 @@
 // Tender lines (document 02, Paper 9): which are priced, and what a rate set makes of them.
+#![tactic(auto)]
+
 ghost use Rattle.std.specs.Prelude.{◌≡◌, ◌≤◌};
 ghost use Rattle.pricing.specs.Price.{with_rate, line_price, price_of};
 ghost use Rattle.pricing.specs.Quote.{highest_cost, any_above, lines_refusal};

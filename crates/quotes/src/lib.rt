@@ -1,5 +1,7 @@
 // Quotes from the agreed rate set (document 02, Paper 9): by a decided value, and of a process of a ticket's run. Total on every text, every number and every
 // list of costs.
+#![tactic(auto)]
+
 ghost use Rattle.std.specs.Prelude.{◌≡◌, cond};
 ghost use Rattle.std.proofs.Math.Option.{some, none};
 ghost use Rattle.pricing.specs.Price.{price_of};

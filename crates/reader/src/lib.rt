@@ -1,5 +1,7 @@
 // The line reader (document 01, 'The ticket'): the ticket bytes, lent, and the start of the next line.
-// Each function over it is proved by hand; the work is left to `read_at`, on the bytes and the place.
+// The work is left to `read_at`, on the bytes and the place.
+#![tactic(auto)]
+
 ghost use Rattle.std.specs.Prelude.{◌≡◌};
 ghost use Rattle.text.specs.Digit.{digit_table};
 ghost use Rattle.lines.specs.code.Read.{read_at};
@@ -60,7 +62,7 @@ pub fn next<'s, 'a>(reader: &'s mut LineReader<'a>, values: &[u8; 256]) -> LineR
     line
 }
 
-// The line of a text at a place, through a reader, and where the reader then stands. Its own parameters are plain, so whoever calls it needs no proof by hand.
+// The line of a text at a place, through a reader, and where the reader then stands. Its own parameters are plain.
 pub fn read_line(values: &[u8; 256], text: &[u8], at: usize) -> Advance
     requires { values.now ≡ digit_table }
     ensures { result ≡ advance_at text.now at }

@@ -23,8 +23,8 @@ use Rattle.run_ends.specs.code.Finished.{Finished}
 use Rattle.reasons.proofs.OfRun.{rounds_known, rows_of_run}
 
 -- What `is_within` tested.
-pub tests-passed : (p n r rounds : ℕ) → (leb 1 p && leb p n && leb 1 r && leb r rounds) ≡ true → (1 ≤ p) × (p ≤ n) × (1 ≤ r) × (r ≤ rounds)
-tests-passed p n r rounds e =
+pub tests_passed : (p n r rounds : ℕ) → (leb 1 p && leb p n && leb 1 r && leb r rounds) ≡ true → (1 ≤ p) × (p ≤ n) × (1 ≤ r) × (r ≤ rounds)
+tests_passed p n r rounds e =
     let (front, last) = both (leb 1 p && leb p n && leb 1 r) (leb r rounds) e in
     let (process, first) = both (leb 1 p && leb p n) (leb 1 r) front in
     let (one, within) = both (leb 1 p) (leb p n) process in
@@ -36,17 +36,17 @@ module _ (table : InstanceTable) (run : RunTable) (done : Finished table run) wh
     abbrev Test : Bool
     Test = leb 1 p && leb p table.n && leb 1 r && leb r run.rounds
 
-    test-is : Test ≡ within_run (instance_of table) p r
+    test_is : Test ≡ within_run (instance_of table) p r
     unfolding within_run instance_of
-    test-is = rw (rounds_known table run done) refl
+    test_is = rw (rounds_known table run done) refl
 
-    pub reason-unknown : Test ≡ false → refused 13 0 ≡ reason_in p r (instance_of table)
+    pub reason_unknown : Test ≡ false → refused 13 0 ≡ reason_in p r (instance_of table)
     unfolding reason_in
-    reason-unknown e = rw (sym test-is ∙ e) refl
+    reason_unknown e = rw (sym test_is ∙ e) refl
 
     pub reason_given_lem : Test ≡ true → (k : ℕ) → k ≡ reason_of (instance_of table) p r → accepted k ≡ reason_in p r (instance_of table)
     unfolding reason_in
-    reason_given_lem e k given = rw (sym test-is ∙ e, given) refl
+    reason_given_lem e k given = rw (sym test_is ∙ e, given) refl
 
   -- Of all of them, in a buffer.
   module _ (before : List ℕ) where
@@ -66,9 +66,9 @@ module _ (table : InstanceTable) (run : RunTable) (done : Finished table run) wh
     unfolding reasons_of
     rows_whole = rows_of_run table run done run.rounds (omega arith) ∙ ap (reasons_to (instance_of table)) (rounds_known table run done)
 
-    pub all-given : run.rounds * table.n ≤ length before → (after : List ℕ)
+    pub all_given_lem : run.rounds * table.n ≤ length before → (after : List ℕ)
         → after ≡ rows_by_ends table.n run.ends run.end_rounds table.steps table.reached run.rounds ++ drop (run.rounds * table.n) before
         → Writing (λ room. reasons_within room (instance_of table)) before after (Given (run.rounds * table.n))
-    all-given room after stored =
+    all_given_lem room after stored =
         let long = size_is ∙ sym (length-reasons (instance_of table)) in
         writing_given _ before (reasons_of (instance_of table)) _ after (fits room) long (stored ∙ rw (rows_whole, long) refl)

@@ -1,5 +1,7 @@
 // The reason beside each desk (document 02, Paper 7): of one process in one round, and of all processes in all rounds at the cost of one run. Total on every
 // text, every number and every buffer.
+#![tactic(auto)]
+
 ghost use Rattle.std.specs.Prelude.{◌≡◌, ◌&&◌, leb};
 ghost use Rattle.answers.specs.Reason.{reason};
 ghost use Rattle.answers.specs.Reply.{answer_by, Explained};

@@ -1,12 +1,16 @@
 // replay: stored tickets, well formed and damaged, each run over the proved library; what it answers, and then an empty line.
 // On standard input a line for each ticket: the output buffer's length in two bytes, then the ticket's bytes.
 // The second implementation writes the tickets and what is to be written for them: `make-tickets` of second/.
-ghost use Rattle.std.specs.Prelude.{◌≡◌, ◌+◌, ◌*◌, ◌≤◌, min, length, take, drop};
+#![tactic(auto)]
+
+ghost use Rattle.std.specs.Prelude.{◌≡◌, ◌+◌, ◌*◌, ◌≤◌, min, length, take, drop, IfOk};
 ghost use Rattle.replay.specs.code.RanIn.{RanIn};
 ghost use Rattle.replay.specs.code.Untouched.{untouched};
 
 use answers::Reply;
 use lines::{Cursor, LineRead};
+use std::io;
+use std::io::{Read, Stdin, Stdout, Write};
 
 // The most bytes of a stored ticket: some more than a ticket may have.
 const TICKET_ROOM: usize = 4200;
@@ -32,24 +36,25 @@ fn is_untouched(out: &[u8], from: usize) -> bool
 }
 
 // Writes the line `changed` where a buffer has another byte than its filling from a place on.
-fn write_changed(out: &[u8], from: usize) {
+fn write_changed(stdout: &mut Stdout, out: &[u8], from: usize) -> io::Result<()> {
     if !is_untouched(out, from) {
-        io::write_all(1, b"changed\n");
+        stdout.write_all(b"changed\n")?;
     }
+    Ok(())
 }
 
 // Writes the front of a buffer.
-fn write_front(buffer: &[u8], size: usize)
+fn write_front(stdout: &mut Stdout, buffer: &[u8], size: usize) -> io::Result<()>
     requires { size ≤ length buffer.now }
 {
-    io::write_all(1, &buffer[..size]);
+    stdout.write_all(&buffer[..size])
 }
 
 // Writes the line of a refusal.
-fn write_refusal(number: u8, line: u16) {
+fn write_refusal(stdout: &mut Stdout, number: u8, line: u16) -> io::Result<()> {
     let mut text = [0u8; result::REFUSAL_LINE_SIZE];
     result::put_refusal(&mut text, number, line);
-    io::write_all(1, &text);
+    stdout.write_all(&text)
 }
 
 // Runs the first `size` bytes of a text as a ticket, with the first `room` bytes of a buffer as its output.
@@ -70,7 +75,7 @@ fn least(a: usize, b: usize) -> usize
 
 // Runs a ticket with an output of `wanted` bytes, or of as many as there is room for, and writes what it answers. The bytes past a result,
 // and all bytes after a refusal, must still be the filling.
-fn answer(text: &[u8], size: usize, wanted: usize)
+fn answer(stdout: &mut Stdout, text: &[u8], size: usize, wanted: usize) -> io::Result<()>
     requires { size ≤ length text.now }
 {
     let room = least(wanted, OUTPUT_ROOM);
@@ -79,15 +84,15 @@ fn answer(text: &[u8], size: usize, wanted: usize)
     match ran {
         Reply::Given(size_written) => {
             let written = size_written as usize;
-            write_front(&out, written);
-            write_changed(&out, written);
+            write_front(stdout, &out, written)?;
+            write_changed(stdout, &out, written)?;
         }
         Reply::Refused(number, line) => {
-            write_refusal(number, line);
-            write_changed(&out, 0);
+            write_refusal(stdout, number, line)?;
+            write_changed(stdout, &out, 0)?;
         }
     }
-    io::write_all(1, b"\n");
+    stdout.write_all(b"\n")
 }
 
 // A byte as a number.
@@ -116,26 +121,26 @@ fn take_bytes(text: &[u8], at: usize, size: usize, bytes: &mut [u8])
 }
 
 // Replays the ticket of one line. Answers false where the line is too short for the length, or its ticket too long for the buffer.
-fn replay_line(text: &[u8], at: usize, size: usize) -> bool
+fn replay_line(stdout: &mut Stdout, text: &[u8], at: usize, size: usize) -> io::Result<bool>
     requires { at + 2 * size ≤ length text.now }
 {
     if size < 2 {
-        return false;
+        return Ok(false);
     }
     let count = size - 2;
     if TICKET_ROOM < count {
-        return false;
+        return Ok(false);
     }
     let mut room = [0u8; 2];
     take_bytes(text, at, 2, &mut room);
     let mut ticket = [0u8; TICKET_ROOM];
     take_bytes(text, at + 4, count, &mut ticket);
-    answer(&ticket, count, wide(room[0]) * 256 + wide(room[1]));
-    true
+    answer(stdout, &ticket, count, wide(room[0]) * 256 + wide(room[1]))?;
+    Ok(true)
 }
 
 // Replays line after line, up to the end or to the first that cannot be replayed. One table of digits serves all lines.
-fn replay(text: &[u8]) {
+fn replay(stdout: &mut Stdout, text: &[u8]) -> io::Result<()> {
     let values = digits::digit_table();
     let mut here = Cursor { at: 0 };
     while here.at < text.len() {
@@ -147,13 +152,14 @@ fn replay(text: &[u8]) {
             next,
         } = here.read(&values, text)
         else {
-            return;
+            return Ok(());
         };
-        if !replay_line(text, at, size) {
-            return;
+        if !replay_line(stdout, text, at, size)? {
+            return Ok(());
         }
         here = next;
     }
+    Ok(())
 }
 
 // Room for all stored tickets: a mebibyte.
@@ -163,9 +169,24 @@ fn storage() -> [u8; 1048576]
     [0; 1048576]
 }
 
+// Reads until the buffer is full or the input ends: how many bytes there are.
+fn read_full(stdin: &mut Stdin, buffer: &mut [u8]) -> io::Result<usize>
+    ensures { IfOk result (λ size. size ≤ length buffer.new) }
+{
+    let mut at = 0;
+    while at < buffer.len() {
+        let n = stdin.read(&mut buffer[at..])?;
+        if n == 0 {
+            return Ok(at);
+        }
+        at += n;
+    }
+    Ok(at)
+}
+
 // What is not read is not answered, and the gate sees that it is missing.
-fn main() {
+fn main(rt: HostRuntime) -> io::Result<()> {
     let mut buffer = storage();
-    let size = io::read_full(0, &mut buffer);
-    replay(&buffer[..size]);
+    let size = read_full(&mut rt.stdin(), &mut buffer)?;
+    replay(&mut rt.stdout(), &buffer[..size])
 }

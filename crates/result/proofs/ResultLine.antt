@@ -15,7 +15,7 @@ use Rattle.consensus.specs.State.{State, crashed, state_of}
 use Rattle.coordinator.specs.Run.{Run}
 use Rattle.text.specs.HexText.{hex_line, line_size}
 use Rattle.text.proofs.HexText.{length-hex_line}
-use Rattle.hex.proofs.HexText.{line_more}
+use Rattle.hex_lines.proofs.HexText.{line_more}
 use Rattle.answers.proofs.ResultLength.{length_last, length_process_lines}
 use Rattle.answers.specs.ResultLine.{end_bytes, process_line, last_line, process_line_size, last_line_size, joined, line_by, process_lines, result_lines, result_size}
 

@@ -1,5 +1,7 @@
 // Writing the lines of a result and of a refusal (document 01, 'The result'; document 02, Paper 2), each straight into the part of the output that follows the
 // line before it.
+#![tactic(auto)]
+
 ghost use Rattle.std.specs.Prelude.{◌≡◌, ◌++◌, ◌*◌, ◌≤◌, length, take, drop};
 ghost use Rattle.tables.specs.code.RunOfTable.{states_over, run_from};
 ghost use Rattle.answers.specs.ResultLine.{process_line_size, process_lines, result_lines, result_size, refusal_line, refusal_line_size};
@@ -47,7 +49,7 @@ fn put_process_lines<'a>(
             data_by[i],
             commits_by[i],
         );
-        hex::put_line(&mut out[PROCESS_LINE_SIZE * i..], &line);
+        hex_lines::put_line(&mut out[PROCESS_LINE_SIZE * i..], &line);
         i += 1;
     }
 }
@@ -84,7 +86,7 @@ pub fn write_result<'a>(
         table.data_sent,
         table.commits_sent,
     );
-    hex::put_line(&mut out[at..], &line);
+    hex_lines::put_line(&mut out[at..], &line);
 }
 
 // The line of a refusal at the front of the output.
@@ -92,5 +94,5 @@ pub fn put_refusal(out: &mut [u8], number: u8, line: u16)
     requires { refusal_line_size ≤ length out.old }
     ensures { out.new ≡ refusal_line number line ++ drop refusal_line_size out.old }
 {
-    hex::put_line(out, &result_lines::refusal_bytes(number, line));
+    hex_lines::put_line(out, &result_lines::refusal_bytes(number, line));
 }

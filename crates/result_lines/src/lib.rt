@@ -1,4 +1,6 @@
 // The bytes of the lines of a result and of a refusal (document 01, 'The result'; document 02, Paper 2), before they are digits.
+#![tactic(auto)]
+
 ghost use Rattle.std.specs.Prelude.{◌≡◌, [], ◌∷◌, ◌++◌};
 ghost use Rattle.general.specs.BigEndian.{bytes_of};
 ghost use Rattle.tables.specs.code.RunOfTable.{state_by_end};

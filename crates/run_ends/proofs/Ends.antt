@@ -10,7 +10,6 @@ use lib.ListN.{get_or}
 use Rattle.general.specs.Answer.{accepted}
 use Rattle.consensus.specs.Instance.{Instance}
 use Rattle.consensus.specs.State.{undecided, decided, crashed}
-use Rattle.coordinator.specs.WellFormed.{WellFormed}
 use Rattle.tables.specs.declared.InstanceTable.{InstanceTable}
 use Rattle.tables.specs.declared.RunTable.{RunTable}
 use Rattle.tables.specs.code.InstanceOfTable.{instance_of}
@@ -19,10 +18,6 @@ use Rattle.tables.proofs.Places.{processes_of, end_in_table}
 use Rattle.run_ends.specs.code.Finished.{Finished}
 use Rattle.run_ends.specs.code.Decision.{value_decided, decided_in, decision_by}
 use Rattle.run_ends.specs.declared.Decision.TheVariants.{Decided, Undecided}
-
--- How many processes a table has.
-pub few_processes : (table : InstanceTable) → WellFormed (instance_of table) → table.n ≤ 64
-few_processes table formed = rw (processes_of table) at formed.at_most_64
 
 -- By an end's number, whatever its round.
 by_end : (end round value : ℕ) → value_decided (state_by_end end round value) ≡ cond (eqb end 1) (some value) none

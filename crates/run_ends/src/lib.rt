@@ -1,4 +1,6 @@
 // A ticket's run to its end, and what a process decides in it (document 01, 'The result'): what an operation that rests on results alone calls.
+#![tactic(auto)]
+
 ghost use Rattle.std.specs.Prelude.{◌≡◌};
 ghost use Rattle.general.specs.Answer.{accepted};
 ghost use Rattle.coordinator.specs.WellFormed.{WellFormed};
@@ -10,7 +12,7 @@ use tables::{DECIDED, RunTable};
 use ticket::TicketAnswer;
 
 // The value that a process decides; that there is none; or the number of the ticket's refusal and its line.
-#[derive(Drop)]
+#[derive(Clone, Copy)]
 pub enum Decision {
     Decided(u32),
     Undecided,

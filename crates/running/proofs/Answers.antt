@@ -30,22 +30,22 @@ use Rattle.coordinator_crashes.proofs.Crashes.{counts_by_rounds}
 use Rattle.coordinator_run.proofs.Settling.{whole_run, settled_run}
 
 module _ (x : Instance) (room : ℕ) where
-  result-short : room < result_size x.processes → result_in room x ≡ refused 9 0
+  result_short : room < result_size x.processes → result_in room x ≡ refused 9 0
   unfolding result_in
-  result-short h = simp (lt-ltb _ _ h)
+  result_short h = simp (lt-ltb _ _ h)
 
   result_fits : result_size x.processes ≤ room → result_in room x ≡ accepted (result_text x)
   unfolding result_in
   result_fits h = simp (le-ltb _ _ h)
 
 -- What is written of the code's run and its f is the instance's result.
-run-written : (table : InstanceTable) (before after : List ℕ) (run : RunTable) (data_counts commit_counts : List ℕ) (f : ℕ)
+run_written : (table : InstanceTable) (before after : List ℕ) (run : RunTable) (data_counts commit_counts : List ℕ) (f : ℕ)
     → RunOf (instance_of table) false table.n run data_counts commit_counts
     → f ≡ crash_count_over table.n table.crash_rounds run.ends run.end_rounds
     → after ≡ result_lines (run_from table.n run) (take table.n data_counts) (take table.n commit_counts) f ++ drop (result_size table.n) before
     → after ≡ result_text (instance_of table) ++ drop (result_size table.n) before
 unfolding result_text crashes_of run_over run_of data_by commits_by
-run-written table before after run data_counts commit_counts f whole counted stored =
+run_written table before after run data_counts commit_counts f whole counted stored =
     let ran = whole_run (instance_of table) table.n run data_counts commit_counts whole in
     let crashes = counted ∙ counts_by_rounds table run ∙ ap (λ (r : Run). crash_count (instance_of table).pattern r.states) ran.run in
     stored ∙ rw (ran.run, ran.data_sent, ran.commits_sent, crashes)
@@ -53,26 +53,26 @@ run-written table before after run data_counts commit_counts f whole counted sto
 module _ (table : InstanceTable) (before : List ℕ) (size : ℕ) (sized : size ≡ result_size table.n) where
   pub run_short : length before < size → Writing (λ room. result_in room (instance_of table)) before before (Refused 9 0)
   unfolding instance_of
-  run_short h = writing_refused _ before 9 0 (result-short (instance_of table) (length before) (omega arith))
+  run_short h = writing_refused _ before 9 0 (result_short (instance_of table) (length before) (omega arith))
 
-  pub run-given : WellFormed (instance_of table) → size ≤ length before
+  pub run_given : WellFormed (instance_of table) → size ≤ length before
       → (after : List ℕ) (run : RunTable) (data_counts commit_counts : List ℕ) (f : ℕ)
       → RunOf (instance_of table) false table.n run data_counts commit_counts
       → f ≡ crash_count_over table.n table.crash_rounds run.ends run.end_rounds
       → after ≡ result_lines (run_from table.n run) (take table.n data_counts) (take table.n commit_counts) f ++ drop (result_size table.n) before
       → Writing (λ room. result_in room (instance_of table)) before after (Given size)
   unfolding instance_of
-  run-given formed fits after run data_counts commit_counts f whole counted stored =
+  run_given formed fits after run data_counts commit_counts f whole counted stored =
       let x : Instance = instance_of table in
       let long : length (result_text x) ≡ result_size table.n = length-text x formed in
       writing_given _ before (result_text x) size after (result_fits x (length before) (omega arith)) (sized ∙ sym long)
-      (run-written table before after run data_counts commit_counts f whole counted stored
+      (run_written table before after run data_counts commit_counts f whole counted stored
       ∙ ap (λ (k : ℕ). result_text x ++ drop k before) (sym long))
 
 -- The run up to its settling round has as many rounds.
-pub settled-in : (table : InstanceTable) (run : RunTable) (data_counts commit_counts : List ℕ) → WellFormed (instance_of table)
+pub settled_in : (table : InstanceTable) (run : RunTable) (data_counts commit_counts : List ℕ) → WellFormed (instance_of table)
     → RunOf (instance_of table) true table.n run data_counts commit_counts → run.rounds ≡ first_settling (instance_of table)
 unfolding run_over
-settled-in table run data_counts commit_counts formed ran =
+settled_in table run data_counts commit_counts formed ran =
     let settled = settled_run (instance_of table) table.n run data_counts commit_counts formed ran in
     ap (λ (known : Run). known.rounds) settled.run ∙ rounds_settled (instance_of table) formed

@@ -1,4 +1,6 @@
 // Running and settling a ticket (document 01, 'The result' and 'Refused calls'): total on every text and every buffer.
+#![tactic(auto)]
+
 ghost use Rattle.std.specs.Prelude.{◌≡◌};
 ghost use Rattle.coordinator.specs.Settling.{first_settling};
 ghost use Rattle.coordinator.specs.WellFormed.{WellFormed};

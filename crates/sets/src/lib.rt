@@ -1,4 +1,6 @@
 // Sets of processes as masks of a word (document 01, 'The forms we use': 'bit j − 1 stands for station j'): made, asked, counted, and stored by.
+#![tactic(auto)]
+
 ghost use Rattle.std.specs.Prelude.{◌≡◌, ◌-◌, ◌^◌, ◌≤◌, ltb, length};
 ghost use Rattle.general.specs.Bits.{member, members_to, set_of, filled};
 

@@ -1,6 +1,8 @@
 // simulate: a ticket on standard input, its result or the line of its refusal on standard output (document 01, 'The result').
 // A thin program over the proved library. What is to be written is proved; that the two system calls read and write it no contract
 // can say: the gate compares what the program writes. What goes wrong with them is told on standard error.
+#![tactic(auto)]
+
 ghost use Rattle.std.specs.Prelude.{◌≡◌, ◌<◌, ◌≤◌, length, take};
 ghost use Rattle.answers.specs.ResultLine.{result_size};
 ghost use Rattle.answers.specs.Running.{program_writes};
@@ -8,6 +10,9 @@ ghost use Rattle.ticket_format.specs.Ticket.{ticket_limit};
 ghost use Rattle.simulate.specs.code.Input.{Within};
 
 use answers::Reply;
+use std::env::{Env, FillError};
+use std::io;
+use std::io::{Read, Write};
 
 // Room for a ticket and one byte more (document 01: at most 4,096 bytes), and for the result of 64 processes.
 const TICKET_ROOM: usize = 4097;
@@ -15,7 +20,7 @@ const TICKET_ROOM: usize = 4097;
 const RESULT_ROOM: usize = 1361;
 
 // What standard input held.
-#[derive(Drop)]
+#[derive(Clone, Copy)]
 enum Input {
     // This many bytes, all that it holds or all that there is room for.
     Text(usize),
@@ -23,33 +28,44 @@ enum Input {
     Failed,
 }
 
+// Says on standard error which stream failed, and how.
+fn tell(rt: &HostRuntime, stream: &str, error: io::Error) {
+    let _said = eprintln!(rt; "simulate: {stream}: {error}").is_ok();
+}
+
 // Reads until the input ends or the buffer is full. One read that fails makes the whole input unreadable: half a ticket is none.
 // The buffer has room for more bytes than a ticket may have, so that a longer text is refused however long it is.
-fn read_input(buffer: &mut [u8]) -> Input
+fn read_input(rt: &HostRuntime, buffer: &mut [u8]) -> Input
     requires { ticket_limit < length buffer.old }
     ensures { Within result (length buffer.old) }
 {
+    let mut stdin = rt.stdin();
     let mut at = 0;
     while at < buffer.len() {
-        let got = libc::read(0, &mut buffer[at..]);
-        if got < 0 {
-            return Input::Failed;
+        match stdin.read(&mut buffer[at..]) {
+            Ok(n) => {
+                if n == 0 {
+                    return Input::Text(at);
+                }
+                at += n;
+            }
+            Err(error) => {
+                tell(rt, "standard input", error);
+                return Input::Failed;
+            }
         }
-        let n = io::count(got, &buffer[at..]);
-        if n == 0 {
-            return Input::Text(at);
-        }
-        at += n;
     }
     Input::Text(at)
 }
 
 // Writes the front of a buffer, and says so on standard error where it cannot be written.
-fn write_front(buffer: &[u8], size: usize)
+fn write_front(rt: &HostRuntime, buffer: &[u8], size: usize)
     requires { size ≤ length buffer.now }
 {
-    if !io::write_all(1, &buffer[..size]) {
-        os::fail(b"simulate: standard output");
+    let mut stdout = rt.stdout();
+    match stdout.write_all(&buffer[..size]) {
+        Ok(()) => {}
+        Err(error) => tell(rt, "standard output", error),
     }
 }
 
@@ -70,37 +86,41 @@ fn answer_text(text: &[u8], out: &mut [u8]) -> usize
 }
 
 // Runs a ticket and writes what it answers.
-fn answer(text: &[u8]) {
+fn answer(rt: &HostRuntime, text: &[u8]) {
     let mut out = [0u8; RESULT_ROOM];
     let size = answer_text(text, &mut out);
-    write_front(&out, size);
+    write_front(rt, &out, size);
 }
 
 // Answers the ticket at the front of a buffer.
-fn answer_front(buffer: &[u8], size: usize)
+fn answer_front(rt: &HostRuntime, buffer: &[u8], size: usize)
     requires { size ≤ length buffer.now }
 {
-    answer(&buffer[..size]);
+    answer(rt, &buffer[..size]);
 }
 
 // Answers the ticket on standard input. A failed read writes nothing to standard output.
-fn answer_input() {
+fn answer_input(rt: &HostRuntime) {
     let mut buffer = [0u8; TICKET_ROOM];
-    let Input::Text(size) = read_input(&mut buffer) else {
-        os::fail(b"simulate: standard input");
+    let Input::Text(size) = read_input(rt, &mut buffer) else {
         return;
     };
-    answer_front(&buffer, size);
+    answer_front(rt, &buffer, size);
+}
+
+// Whether the program is called with words behind its name.
+fn has_arguments(rt: &HostRuntime) -> bool {
+    let mut word = [0u8; 1];
+    !matches!(rt.arg(1, &mut word), Err(FillError::NotPresent))
 }
 
 // A call with arguments is a mistake, as of somebody who names a file: standard input is not waited for.
-fn main() {
-    if os::arg_count() > 1 {
-        io::write_all(
-            2,
-            b"simulate: no arguments are taken. usage: simulate < TICKET > RESULT\n",
-        );
+fn main(rt: HostRuntime) {
+    if has_arguments(&rt) {
+        let _said = eprintln!(rt;
+            "simulate: no arguments are taken. usage: simulate < TICKET > RESULT"
+        ).is_ok();
         return;
     }
-    answer_input();
+    answer_input(&rt);
 }

@@ -1,6 +1,8 @@
 // The table of a ticket's numbers, as reading it whole answers it, and the table by value that a run is kept in. Process p (document 01: station) stands
 // at place p - 1.
 // specs/ says which instance and which run a table stands for.
+#![tactic(auto)]
+
 ghost use Rattle.std.specs.Prelude.{◌≡◌, ◌≤◌};
 ghost use Rattle.tables.specs.code.InitialTable.{initial_table};
 
@@ -25,7 +27,7 @@ pub const CRASHED: u8 = 2;
 
 // Document 01, 'The ticket': "the table of 64 stations, with each one's value, round and end"; and what the run has counted.
 // `undecided` is the set of those of the n processes that are up and undecided: bit p - 1 just if end p is 00 (a place above n has end 00 and no bit).
-#[derive(Drop)]
+#[derive(Clone, Copy)]
 pub struct RunTable {
     pub ends: [u8; 64],
     pub end_rounds: [u8; 64],

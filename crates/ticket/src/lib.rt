@@ -1,4 +1,6 @@
 // Reading a ticket (document 01, 'The ticket'): from any bytes to an instance or a refusal.
+#![tactic(auto)]
+
 ghost use Rattle.std.specs.Prelude.{◌≡◌, true, ◌≤◌, length};
 ghost use Rattle.consensus.specs.Instance.{within_limits};
 ghost use Rattle.text.specs.Digit.{digit_table};
@@ -14,14 +16,14 @@ use ticket_format::{HeaderAnswer, LineAnswer, Place};
 const TICKET_LIMIT: usize = 4096;
 
 // Accepted with n and t, or the number of the refusal and its line.
-#[derive(Drop)]
+#[derive(Clone, Copy)]
 pub enum TicketAnswer {
     Accepted(u8, u8),
     Refused(u8, u16),
 }
 
 // n and t, and the place at which the second line begins.
-#[derive(Drop)]
+#[derive(Clone, Copy)]
 pub struct Header {
     pub n: u8,
     pub t: u8,
@@ -29,7 +31,7 @@ pub struct Header {
 }
 
 // What the first line says, or the refusal of the ticket.
-#[derive(Drop)]
+#[derive(Clone, Copy)]
 pub enum HeaderRead {
     Header(Header),
     Refused(u8, u16),

@@ -1,4 +1,6 @@
 // The checks of a ticket's lines behind refusals 4, 7 and 8 (document 01, 'Refused calls'), each equal to its definition.
+#![tactic(auto)]
+
 ghost use Rattle.std.specs.Prelude.{◌≡◌, ◌≤◌};
 ghost use Rattle.consensus.specs.Instance.{within_limits};
 ghost use Rattle.ticket_format.specs.FailureLine.{places_crash, all_between, suits_step};

@@ -1,8 +1,9 @@
 // What document 01 says of tickets: their lines, what is read of them and their refusals, as definitions (specs/), with the rows that pin them.
 // The types are those that the definitions and the code share.
+#![tactic(auto)]
 
 // The bytes of a failure line behind its kind: station, round, step, set, in which bit j - 1 stands for process j, and count.
-#[derive(Drop)]
+#[derive(Clone, Copy)]
 pub struct FailureLine {
     pub process: u8,
     pub round: u8,
@@ -12,7 +13,7 @@ pub struct FailureLine {
 }
 
 // Where in a ticket a line behind the header stands.
-#[derive(Drop)]
+#[derive(Clone, Copy)]
 pub enum Place {
     // After so many proposal lines.
     Proposals(u8),
@@ -23,14 +24,14 @@ pub enum Place {
 }
 
 // What the header says, n and t, or the number of its refusal.
-#[derive(Drop)]
+#[derive(Clone, Copy)]
 pub enum HeaderAnswer {
     Limits(u8, u8),
     Refused(u8),
 }
 
 // What a line behind the header says, or the number of its refusal.
-#[derive(Drop)]
+#[derive(Clone, Copy)]
 pub enum LineAnswer {
     // After so many proposals this value; and the next place.
     Proposal(u8, u32, Place),

@@ -1,5 +1,7 @@
 // What one line of a ticket says where it stands (document 01, 'The ticket' and refusals 3 to 8). A line comes as its size and its last sixteen bytes as
 // two words.
+#![tactic(auto)]
+
 ghost use Rattle.std.specs.Prelude.{◌≡◌, ◌≤◌, ◌<◌};
 ghost use Rattle.lines.specs.code.Words.{line_bytes};
 ghost use Rattle.ticket_format.specs.Says.{header_says, after_proposal, proposal_says, failure_line, crash_says, failure_says, line_says};

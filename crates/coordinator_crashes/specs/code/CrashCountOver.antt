@@ -15,6 +15,6 @@ faults_by n crash_rounds = (instance_of (table_of n 0 [] crash_rounds [] [] []))
 abbrev pub states_by : ℕ → (ends end_rounds : List ℕ) → List State
 states_by n ends end_rounds = states_over n ends end_rounds []
 
--- f of n processes. That it is `crash_count` of every table that holds these is `counts-by-rounds` of proofs/Crashes.
+-- f of n processes. That it is `crash_count` of every table that holds these is `counts_by_rounds` of proofs/Crashes.
 abbrev pub crash_count_over : ℕ → (crash_rounds ends end_rounds : List ℕ) → ℕ
 crash_count_over n crash_rounds ends end_rounds = crash_count (faults_by n crash_rounds) (states_by n ends end_rounds)

@@ -1,5 +1,5 @@
 -- For the code alone: the reasons (document 02, Paper 7) by how the processes of a whole run end, in the numbers of the run's table, and by the failure lines
--- of the coordinators. That they are `reason_of` of the instance is `reason-by-table` of
+-- of the coordinators. That they are `reason_of` of the instance is `reason_by_table` of
 -- reasons/proofs/OfRun.
 use Rattle.std.specs.Prelude.{List, [], ◌++◌, ℕ, zero, suc, Bool, cond, eqb, ltb, get_or}
 use Rattle.general.specs.Table.{tabulate}

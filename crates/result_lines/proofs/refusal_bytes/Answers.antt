@@ -1,0 +1,6 @@
+-- `result_lines::refusal_bytes` meets its contract. Assumes nothing.
+use Rattle.general.proofs.BigEndian.{bytes_two}
+use Rattle.result_lines.proofs.refusal_bytes.Goals as goal
+
+pub returns : goal.returns
+returns c = simp bytes_two
