@@ -5,7 +5,8 @@
 # make picture TICKET=FILE    the same as a picture, in target/pictures/ or PICTURE=FILE
 # make quote TICKET=FILE COSTS=FILE
 #                             what each process quotes for a tender: COSTS has the direct cost of each tender line, in pence, on a line by itself
-# make test                   everything from nothing: proofs, must-fail edits, programs, and the evidence beyond the proofs; what each part took.
+# make test                   everything: proofs, must-fail edits, programs, and the evidence beyond the proofs; what each part took. What the gate
+#                             passed before on this machine, of the same files, it does not prove again.
 #                             (The wrong programs beside the gate are not tried here.)
 # make vectors                compute the definitions on every vector of tests/vectors/
 # make vectors-part           the same on a part that has every kind of vector
@@ -34,10 +35,10 @@ SECONDS ?= 60
 
 CC ?= cc
 CFLAGS_STRICT = -std=c11 -O2 -g -Wall -Wextra -Wpedantic -Wconversion -Werror -Iinclude
-LIBRARY = target/staticlib/libagreement.a
-SOURCES = crates.txt $(shell find crates -name must-fail -prune -o \( -name '*.rt' -o -name '*.antt' \) -print)
+LIBRARY = crates/agreement/out/libagreement.a
+SOURCES = crates.txt $(shell find crates \( -name out -o -name must-fail -o -name wrong-programs \) -prune -o \( -name '*.rt' -o -name '*.antt' \) -print)
 SANITIZERS = -fsanitize=address,undefined -fno-sanitize-recover=all
-SECOND = cd second && CARGO_TARGET_DIR=../target/second AGREEMENT_LIB_DIR="$(CURDIR)/target/staticlib" cargo
+SECOND = cd second && CARGO_TARGET_DIR=../target/second AGREEMENT_LIB_DIR="$(CURDIR)/$(dir $(LIBRARY))" cargo
 VERSION = $(shell sed -n 's/^.define UC_VERSION "\(.*\)"/\1/p' include/agreement.h)
 
 COVERAGE_FLAGS = -Cpasses=sancov-module -Cllvm-args=-sanitizer-coverage-level=3 -Cllvm-args=-sanitizer-coverage-inline-8bit-counters \
@@ -48,13 +49,13 @@ COVERAGE_FLAGS = -Cpasses=sancov-module -Cllvm-args=-sanitizer-coverage-level=3 
 
 EXAMPLES = host frames report reasons quote
 
-all: prove $(LIBRARY) $(EXAMPLES:%=target/bin/%)
+all: prove target/bin/simulate $(LIBRARY) $(EXAMPLES:%=target/bin/%)
 
 help:
 	@sed -n '/^#/!q; s/^# //p' Makefile
 
 prove:
-	rt check
+	rt all check
 
 # What is written of building goes to standard error, so that standard output has the answer alone. File names go by the environment, so that
 # any name will do.
@@ -84,9 +85,14 @@ quote: ticket-named
 	@$(MAKE) -s target/bin/quote >&2
 	@target/bin/quote "$$TICKET" "$$COSTS"
 
-target/bin/simulate: $(SOURCES)
-	rt check simulate
+# rt leaves what it makes in a crate's out/, the gate a program too. To build a program it also runs it, here on nothing.
+crates/simulate/out/simulate: $(SOURCES)
+	cd crates/simulate && rt run < /dev/null > /dev/null
 	@touch $@
+
+target/bin/simulate: crates/simulate/out/simulate
+	mkdir -p target/bin
+	cp $< $@
 
 test:
 	@tools/in-memory tests/test
@@ -102,7 +108,7 @@ vectors-part:
 	tools/in-memory tests/try-vectors --part
 
 $(LIBRARY): $(SOURCES)
-	rt staticlib agreement
+	cd crates/agreement && rt lib
 	@touch $@
 
 target/bin/%: examples/%.c include/agreement.h $(LIBRARY)
