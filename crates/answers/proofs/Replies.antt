@@ -7,6 +7,7 @@ use native.Mathlib.Omega.{arith}
 use borrow.Author.Tests.{ltb-false}
 use lib.Dec.{ltb}
 use lib.ListN.{length, drop}
+use Rattle.std.specs.Prelude.{Result, Ok, Err, IsErrAnd}
 use Rattle.general.specs.Answer.{Answer, accepted, refused}
 use Rattle.general.proofs.Answer.{and_then_cases}
 use Rattle.consensus.specs.Instance.{Instance}
@@ -14,23 +15,32 @@ use Rattle.ticket_format.specs.Ticket.{read_ticket}
 use Rattle.ticket_laws.proofs.WellFormed.{accepted_well_formed}
 use Rattle.answers.specs.ResultLine.{result_text, result_size}
 use Rattle.answers.specs.Running.{result_in, running, buffer_after}
-use Rattle.answers.specs.Reply.{answer_by, size_of, Writing, Ran}
+use Rattle.refusals.specs.Number.{number_of}
+use Rattle.refusals.specs.Answered.{answer_of}
+use Rattle.refusals.specs.declared.Refused.{Refused as RefusedLine}
+use Rattle.answers.specs.Reply.{answer_by, reply_of, size_of, Writing, Ran}
 use Rattle.answers.proofs.ResultLength.{length-text}
-use Rattle.answers.specs.declared.Reply.{Reply}
-use Rattle.answers.specs.declared.Reply.TheVariants.{Given, Refused}
+use Rattle.answers.specs.Reply.{Reply}
+use Rattle.answers.specs.Reply.{Given, Refused}
 
 -- A reply is known by what it stands for.
-reply_of : Answer ℕ → Reply
-reply_of (accepted k) = Given k
-reply_of (refused number line) = Refused number line
+reply_as : Answer ℕ → Reply
+reply_as (accepted k) = Given k
+reply_as (refused number line) = Refused number line
 
-known : (reply : Reply) → reply_of (answer_by reply) ≡ reply
-unfolding answer_by reply_of
+known : (reply : Reply) → reply_as (answer_by reply) ≡ reply
+unfolding answer_by reply_as
 known (Given k) = refl
 known (Refused number line) = refl
 
 pub same_reply : (a b : Reply) → answer_by a ≡ answer_by b → a ≡ b
-same_reply a b e = sym (known a) ∙ ap reply_of e ∙ known b
+same_reply a b e = sym (known a) ∙ ap reply_as e ∙ known b
+
+-- What the code's result stands for, as a reply and at once.
+pub replied : (result : Result ℕ RefusedLine) → answer_by (reply_of result) ≡ answer_of (λ k. k) result
+unfolding answer_by reply_of answer_of
+replied (Ok k) = refl
+replied (Err e) = refl
 
 module _ (answer : ℕ → Answer (List ℕ)) (before : List ℕ) where
   pub writing_refused : (number line : ℕ) → answer (length before) ≡ refused number line → Writing answer before before (Refused number line)
@@ -47,6 +57,14 @@ module _ (answer : ℕ → Answer (List ℕ)) (before : List ℕ) where
       → Writing answer before after reply → Writing other before after reply
   writing_same other after reply e w =
       record { answered = w.answered ∙ ap size_of e; buffer = w.buffer ∙ ap (λ (a : Answer (List ℕ)). buffer_after a before) e }
+
+-- The same where the code hands a refusal up.
+pub writing_err : (answer : ℕ → Answer (List ℕ)) (before : List ℕ) (e : RefusedLine)
+    → refused (number_of e.refusal) e.line ≡ answer (length before) → (result : Result ℕ RefusedLine)
+    → IsErrAnd result (λ given. given ≡ e) → Writing answer before before (reply_of result)
+unfolding reply_of
+writing_err answer before e told (Ok k) given = elim given [ ]
+writing_err answer before e told (Err known) given = rw given (writing_refused answer before (number_of e.refusal) e.line (sym told))
 
 -- What a reply tells of what was answered, and of what was left.
 module _ (answer : ℕ → Answer (List ℕ)) (before after : List ℕ) (reply : Reply) (wrote : Writing answer before after reply) where

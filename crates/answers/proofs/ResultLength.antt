@@ -7,7 +7,8 @@ use lib.ListN.{length, length-append}
 use Rattle.general.specs.BigEndian.{bytes_of}
 use Rattle.general.specs.Indexed.{map_from}
 use Rattle.consensus.specs.Instance.{Instance}
-use Rattle.consensus.specs.State.{State, undecided, decided, crashed}
+use Rattle.consensus.specs.declared.State.{State}
+use Rattle.consensus.specs.declared.State.TheVariants.{Undecided as undecided, Decided as decided, Crashed as crashed}
 use Rattle.coordinator.specs.Run.{Run, run_of, crashes_of}
 use Rattle.coordinator.specs.WellFormed.{WellFormed}
 use Rattle.coordinator_laws.proofs.Ends.{states_at_end}

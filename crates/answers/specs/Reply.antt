@@ -1,10 +1,20 @@
 -- What an operation's reply stands for, in the papers' numbers (document 01, 'The forms we use', last paragraph), and what the operations that write promise.
-use Rattle.std.specs.Prelude.{List, ◌≡◌, ℕ, length}
+use Rattle.std.specs.Prelude.{List, ◌≡◌, ℕ, length, Result, Ok, Err}
 use Rattle.general.specs.Answer.{Answer, accepted, refused, and_then}
 use Rattle.answers.specs.Running.{running, buffer_after}
 use Rattle.answers.specs.Reason.{reasons}
-use Rattle.answers.specs.declared.Reply.{Reply}
-use Rattle.answers.specs.declared.Reply.TheVariants.{Given, Refused}
+use Rattle.refusals.specs.Number.{number_of}
+use Rattle.refusals.specs.declared.Refused.{Refused as RefusedLine}
+
+-- What is given, a number; or the number of a refusal and its line.
+pub data Reply : Type 0 where
+  Given : ℕ → Reply
+  Refused : (number line : ℕ) → Reply
+
+-- The reply that a result of the code is.
+unfoldable pub reply_of : Result ℕ RefusedLine → Reply
+reply_of (Ok k) = Given k
+reply_of (Err e) = Refused (number_of e.refusal) e.line
 
 -- A number, or a refusal with its line.
 unfoldable pub answer_by : Reply → Answer ℕ

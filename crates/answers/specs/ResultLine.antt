@@ -4,7 +4,8 @@ use Rattle.general.specs.BigEndian.{bytes_of}
 use Rattle.general.specs.Indexed.{map_from}
 use Rattle.general.specs.Counts.{count_of}
 use Rattle.consensus.specs.Instance.{Instance}
-use Rattle.consensus.specs.State.{State, undecided, decided, crashed}
+use Rattle.consensus.specs.declared.State.{State}
+use Rattle.consensus.specs.declared.State.TheVariants.{Undecided as undecided, Decided as decided, Crashed as crashed}
 use Rattle.coordinator.specs.Run.{Run, run_of, crashes_of}
 use Rattle.coordinator.specs.SentBy.{data_by, commits_by}
 use Rattle.text.specs.HexText.{hex_line, line_size}

@@ -5,8 +5,13 @@ use Prim.Native.Nat.{ℕ, zero, suc, ◌-◌, ◌≤◌}
 use native.Mathlib.Omega.{arith}
 use lib.ListN.{get_or}
 use Rattle.general.specs.Indexed.{map_from}
-use Rattle.consensus.specs.Instance.{correct, crashes, CrashPoint, during_data, point_from, Instance, fault_of, proposal_of}
-use Rattle.consensus.specs.State.{State, undecided, decided, crashed, state_of}
+use Rattle.consensus.specs.Instance.{point_from, Instance, fault_of, proposal_of}
+use Rattle.consensus.specs.declared.Fault.TheVariants.{Correct as correct, Crashes as crashes}
+use Rattle.consensus.specs.declared.CrashPoint.{CrashPoint}
+use Rattle.consensus.specs.declared.CrashPoint.TheVariants.{DuringData as during_data}
+use Rattle.consensus.specs.State.{state_of}
+use Rattle.consensus.specs.declared.State.{State}
+use Rattle.consensus.specs.declared.State.TheVariants.{Undecided as undecided, Decided as decided, Crashed as crashed}
 use Rattle.consensus.specs.CrashCount.{is_idle, counts_as_crash, crash_count}
 use Rattle.consensus.specs.FourProcesses.{four, first_crashes, after_one_commit, data_to_the_last, idle_besides, idle_alone}
 use Rattle.consensus.specs.ClaimCases.{case1_ends, case8_ends, Impostors, Passed, CrashPoints, ClaimCases}

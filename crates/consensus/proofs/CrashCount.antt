@@ -9,8 +9,12 @@ use native.Mathlib.Nat.{le_trans}
 use native.Mathlib.Omega.{arith}
 use lib.Dec.{ltb}
 use lib.ListN.{length, get_or}
-use Rattle.consensus.specs.Instance.{Instance, Fault, correct, crashes, CrashPoint, fault_of}
-use Rattle.consensus.specs.State.{State, undecided, decided, crashed}
+use Rattle.consensus.specs.Instance.{Instance, fault_of}
+use Rattle.consensus.specs.declared.Fault.{Fault}
+use Rattle.consensus.specs.declared.Fault.TheVariants.{Correct as correct, Crashes as crashes}
+use Rattle.consensus.specs.declared.CrashPoint.{CrashPoint}
+use Rattle.consensus.specs.declared.State.{State}
+use Rattle.consensus.specs.declared.State.TheVariants.{Undecided as undecided, Decided as decided, Crashed as crashed}
 use Rattle.consensus.specs.CrashCount.{is_idle, counts_as_crash, crash_count, has_crashed, crashed_count}
 use Rattle.consensus.specs.WellFormed.{Points, WellFormedBy, fault_count}
 use Rattle.consensus.specs.Consensus.{IsProcess, CrashesAsSaid, CrashesNoOther}

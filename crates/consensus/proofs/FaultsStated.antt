@@ -7,7 +7,8 @@ use native.Mathlib.Omega.{arith}
 use lib.ListN.{length, get_or, set, replicate}
 use lib.Seq.{get_or-set_same, get_or-set_other}
 use Rattle.general.proofs.Tests.{by_equal}
-use Rattle.consensus.specs.Instance.{Fault, correct, crashes}
+use Rattle.consensus.specs.declared.Fault.{Fault}
+use Rattle.consensus.specs.declared.Fault.TheVariants.{Correct as correct, Crashes as crashes}
 use Rattle.consensus.specs.WellFormed.{fault_count}
 
 -- A fault that is stated where there was another adds at most one.

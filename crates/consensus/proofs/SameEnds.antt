@@ -3,7 +3,7 @@ use mathlib.Core.Path.{◌≡◌, sym, ap, ◌∙◌}
 use Prim.Native.Nat.{ℕ}
 use Rattle.consensus.specs.Instance.{Instance}
 use Rattle.consensus.specs.CrashCount.{is_idle}
-use Rattle.consensus.specs.State.{State}
+use Rattle.consensus.specs.declared.State.{State}
 use Rattle.consensus.specs.Consensus.{IsProcess, Decides, CrashesUndecided, Agreement, Validity, Termination, DecidesBy}
 use Rattle.consensus.specs.Consensus.{CrashesAsSaid, CrashesNoOther, UniformConsensus, NoLater}
 

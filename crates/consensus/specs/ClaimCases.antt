@@ -1,8 +1,11 @@
 -- Ends that the claims of demand 3 refuse, one for each claim, so that none of them is empty, and ends that they let pass (document 01, 'Questions a
 -- reviewer puts to each contract': 'Which impostors must it catch?').
 use Rattle.std.specs.Prelude.{List, [], ◌∷◌, ◌≡◌}
-use Rattle.consensus.specs.Instance.{point_from, before_sending, during_data, during_commits}
-use Rattle.consensus.specs.State.{State, undecided, decided, crashed, state_of}
+use Rattle.consensus.specs.Instance.{point_from}
+use Rattle.consensus.specs.declared.CrashPoint.TheVariants.{BeforeSending as before_sending, DuringData as during_data, DuringCommits as during_commits}
+use Rattle.consensus.specs.State.{state_of}
+use Rattle.consensus.specs.declared.State.{State}
+use Rattle.consensus.specs.declared.State.TheVariants.{Undecided as undecided, Decided as decided, Crashed as crashed}
 use Rattle.consensus.specs.Consensus.{Agreement, Validity, Termination, DecidesBy, CrashesAsSaid, CrashesNoOther, CountsCrashes, NoLater}
 use Rattle.consensus.specs.FourProcesses.{after_one_commit, data_to_the_last, idle_besides, idle_alone}
 

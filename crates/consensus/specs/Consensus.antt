@@ -3,8 +3,11 @@
 -- The claims are about how the processes of an instance end, by whatever protocol: `ends` gives the end of each process.
 use Rattle.std.specs.Prelude.{List, ◌≡◌, false, ℕ, ◌≤◌}
 use Rattle.general.specs.Indexed.{map_from}
-use Rattle.consensus.specs.Instance.{Instance, crashes, CrashPoint, proposal_of, fault_of}
-use Rattle.consensus.specs.State.{State, decided, crashed}
+use Rattle.consensus.specs.Instance.{Instance, proposal_of, fault_of}
+use Rattle.consensus.specs.declared.Fault.TheVariants.{Crashes as crashes}
+use Rattle.consensus.specs.declared.CrashPoint.{CrashPoint}
+use Rattle.consensus.specs.declared.State.{State}
+use Rattle.consensus.specs.declared.State.TheVariants.{Decided as decided, Crashed as crashed}
 use Rattle.consensus.specs.CrashCount.{is_idle, crash_count}
 
 -- p is a process of the instance.

@@ -1,8 +1,10 @@
 -- f, which bounds the rounds (document 01, 'A round', second paragraph: 'A failure line whose station decided in an earlier round is idle', 'f counts the
 -- lines that are not idle'; and the crashed processes, of which it is proved that f is their number).
 use Rattle.std.specs.Prelude.{List, [], ◌∷◌, Bool, false, cond, ℕ, ◌+◌, ltb}
-use Rattle.consensus.specs.Instance.{Fault, correct, crashes}
-use Rattle.consensus.specs.State.{State, undecided, decided, crashed}
+use Rattle.consensus.specs.declared.Fault.{Fault}
+use Rattle.consensus.specs.declared.Fault.TheVariants.{Correct as correct, Crashes as crashes}
+use Rattle.consensus.specs.declared.State.{State}
+use Rattle.consensus.specs.declared.State.TheVariants.{Undecided as undecided, Decided as decided, Crashed as crashed}
 
 -- A failure line of this round is idle if its process decided in an earlier one.
 unfoldable pub is_idle : (round : ℕ) → State → Bool

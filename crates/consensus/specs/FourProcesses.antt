@@ -1,6 +1,10 @@
 -- Instances of four processes (document 01, 'Worked runs': "Cases 2 to 8 and 12 use case 1's n, t and proposals unless said").
 use Rattle.std.specs.Prelude.{List, [], ◌∷◌}
-use Rattle.consensus.specs.Instance.{Instance, CrashPoint, Fault, correct, crashes, before_sending, during_data, during_commits}
+use Rattle.consensus.specs.Instance.{Instance}
+use Rattle.consensus.specs.declared.Fault.{Fault}
+use Rattle.consensus.specs.declared.Fault.TheVariants.{Correct as correct, Crashes as crashes}
+use Rattle.consensus.specs.declared.CrashPoint.{CrashPoint}
+use Rattle.consensus.specs.declared.CrashPoint.TheVariants.{BeforeSending as before_sending, DuringData as during_data, DuringCommits as during_commits}
 
 -- Case 1's n, t and proposals.
 unfoldable pub four : List Fault → Instance

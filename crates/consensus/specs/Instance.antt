@@ -1,24 +1,15 @@
 -- An instance of the agreement problem: the processes, their proposals and the failure pattern (document 01, 'The ticket': a ticket's contents).
 use Rattle.std.specs.Prelude.{List, ℕ, ◌-◌, Bool, cond, ◌&&◌, eqb, ltb, leb, get_or}
-
--- How far a process gets with sending in the round in which it crashes (document 01: the step of a failure line).
-pub data CrashPoint : Type 0 where
-  -- step 00: it crashes before it sends anything
-  before_sending : CrashPoint
-  -- step 01: it crashes while sending data, which only the processes of this set receive
-  during_data : (reached : ℕ) → CrashPoint
-  -- step 02: all its data messages and this many of its commit messages leave
-  during_commits : (sent : ℕ) → CrashPoint
+-- The code's enums. `CrashPoint`: how far a process gets with sending in the round in which it crashes (document 01: the step of a failure line).
+-- `Fault`: what the failure pattern says of one process (document 01: no failure line, or its failure line).
+use Rattle.consensus.specs.declared.CrashPoint.{CrashPoint}
+use Rattle.consensus.specs.declared.CrashPoint.TheVariants.{BeforeSending as before_sending, DuringData as during_data, DuringCommits as during_commits}
+use Rattle.consensus.specs.declared.Fault.{Fault}
+use Rattle.consensus.specs.declared.Fault.TheVariants.{Correct as correct}
 
 -- The crash point that a step, a set and a count stand for.
 unfoldable pub point_from : (step reached count : ℕ) → CrashPoint
 point_from step reached count = cond (eqb step 0) before_sending (cond (eqb step 1) (during_data reached) (during_commits count))
-
--- What the failure pattern says of one process (document 01: no failure line, or its failure line): it is correct, or it crashes in this round at this point
--- if it is still up and undecided then.
-pub data Fault : Type 0 where
-  correct : Fault
-  crashes : (round : ℕ) → CrashPoint → Fault
 
 -- 1 ≤ n ≤ 64 and t < n.
 unfoldable pub within_limits : (n t : ℕ) → Bool

@@ -1,12 +1,10 @@
 -- How a process ends, whatever the protocol; the coordinator's processes stand so between two rounds too (document 01, 'A round').
 use Rattle.std.specs.Prelude.{List, ℕ, ◌-◌, Bool, false, eqb, get_or}
-use Rattle.consensus.specs.Instance.{Fault, correct, crashes}
-
--- A process between two rounds: up and undecided with its estimate; decided in this round on this value; crashed in this round (document 01: dark).
-pub data State : Type 0 where
-  undecided : (v : ℕ) → State
-  decided : (round v : ℕ) → State
-  crashed : (round : ℕ) → State
+use Rattle.consensus.specs.declared.Fault.{Fault}
+use Rattle.consensus.specs.declared.Fault.TheVariants.{Correct as correct, Crashes as crashes}
+-- The code's enum: a process between two rounds (document 01: up and undecided, decided, dark).
+use Rattle.consensus.specs.declared.State.{State}
+use Rattle.consensus.specs.declared.State.TheVariants.{Crashed as crashed}
 
 -- The state of process p among those of all.
 unfoldable pub state_of : List State → ℕ → State

@@ -1,7 +1,10 @@
 -- What refusals 1 to 8 leave of an instance, whatever the protocol (document 01, 'The ticket'): the limits of n and t, a proposal and a fault for each
 -- process, at most t faults, each within its limits. At which points a process may crash is the protocol's.
 use Rattle.std.specs.Prelude.{List, [], ◌∷◌, ◌≡◌, ℕ, suc, ◌^◌, ◌≤◌, ◌<◌, length, get_or}
-use Rattle.consensus.specs.Instance.{Instance, Fault, correct, crashes, CrashPoint, fault_of}
+use Rattle.consensus.specs.Instance.{Instance, fault_of}
+use Rattle.consensus.specs.declared.Fault.{Fault}
+use Rattle.consensus.specs.declared.Fault.TheVariants.{Correct as correct, Crashes as crashes}
+use Rattle.consensus.specs.declared.CrashPoint.{CrashPoint}
 
 -- The points at which process p, of n, may crash in a round.
 abbrev pub Points : Type 1

@@ -1,5 +1,5 @@
 -- Which crash points a failure line may give, at the limits (document 01, 'The ticket', the line 03).
-use Rattle.consensus.specs.Instance.{before_sending, during_data, during_commits}
+use Rattle.consensus.specs.declared.CrashPoint.TheVariants.{BeforeSending as before_sending, DuringData as during_data, DuringCommits as during_commits}
 use Rattle.coordinator.specs.WellFormed.{PointAllowed}
 
 -- Of process 2 of four.

@@ -4,7 +4,8 @@
 use Rattle.std.specs.Prelude.{List, ℕ, Bool, cond, ◌&&◌}
 use Rattle.general.specs.Indexed.{count_from}
 use Rattle.consensus.specs.Instance.{Instance, fault_of}
-use Rattle.consensus.specs.State.{State, state_of}
+use Rattle.consensus.specs.State.{state_of}
+use Rattle.consensus.specs.declared.State.{State}
 use Rattle.coordinator.specs.Message.{Reach, gets_data, gets_commit}
 use Rattle.coordinator.specs.Delivery.{reach}
 use Rattle.coordinator.specs.Undecided.{is_undecided}

@@ -3,7 +3,10 @@
 use Rattle.std.specs.Prelude.{ℕ, ◌+◌, Bool, cond, eqb, ltb}
 use Rattle.general.specs.Bits.{member}
 use Rattle.coordinator.specs.Message.{Reach, none, data_only, all}
-use Rattle.consensus.specs.Instance.{Fault, correct, crashes, CrashPoint, before_sending, during_data, during_commits}
+use Rattle.consensus.specs.declared.Fault.{Fault}
+use Rattle.consensus.specs.declared.Fault.TheVariants.{Correct as correct, Crashes as crashes}
+use Rattle.consensus.specs.declared.CrashPoint.{CrashPoint}
+use Rattle.consensus.specs.declared.CrashPoint.TheVariants.{BeforeSending as before_sending, DuringData as during_data, DuringCommits as during_commits}
 
 -- Commits go to n, n - 1 and so on downward, whether or not those processes still listen: process p is among the first `sent` of them just if n < p + sent.
 unfoldable pub among_first : (n sent p : ℕ) → Bool

@@ -2,8 +2,11 @@
 -- What makes a reason true is a relation of its own (TrueReasons).
 use Rattle.std.specs.Prelude.{List, [], ◌++◌, ℕ, zero, suc, ◌-◌, cond, eqb}
 use Rattle.general.specs.Table.{tabulate}
-use Rattle.consensus.specs.Instance.{Instance, Fault, fault_of}
-use Rattle.consensus.specs.State.{State, undecided, decided, crashed, state_of, crashes_in}
+use Rattle.consensus.specs.Instance.{Instance, fault_of}
+use Rattle.consensus.specs.declared.Fault.{Fault}
+use Rattle.consensus.specs.State.{state_of, crashes_in}
+use Rattle.consensus.specs.declared.State.{State}
+use Rattle.consensus.specs.declared.State.TheVariants.{Undecided as undecided, Decided as decided, Crashed as crashed}
 use Rattle.coordinator.specs.Message.{Messages, nothing, estimate, estimate_and_commit}
 use Rattle.coordinator.specs.Round.{received}
 use Rattle.coordinator.specs.Run.{run_to, run_of}

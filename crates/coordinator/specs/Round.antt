@@ -2,8 +2,11 @@
 use Rattle.std.specs.Prelude.{List, ℕ, true, cond, eqb}
 use Rattle.general.specs.Indexed.{map_from}
 use Rattle.coordinator.specs.Message.{Messages, nothing, arriving}
-use Rattle.consensus.specs.Instance.{Instance, Fault, fault_of}
-use Rattle.consensus.specs.State.{State, undecided, decided, crashed, state_of, crashes_in}
+use Rattle.consensus.specs.Instance.{Instance, fault_of}
+use Rattle.consensus.specs.declared.Fault.{Fault}
+use Rattle.consensus.specs.State.{state_of, crashes_in}
+use Rattle.consensus.specs.declared.State.{State}
+use Rattle.consensus.specs.declared.State.TheVariants.{Undecided as undecided, Decided as decided, Crashed as crashed}
 use Rattle.coordinator.specs.Transition.{Outcome, continues, decides, sends, receives}
 use Rattle.coordinator.specs.Delivery.{reach}
 

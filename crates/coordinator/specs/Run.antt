@@ -2,7 +2,9 @@
 -- All t + 1 rounds are run. One that begins with no process up and undecided changes nothing and counts nothing, so the run has ended before it.
 use Rattle.std.specs.Prelude.{List, map, ℕ, zero, suc, ◌+◌, cond}
 use Rattle.consensus.specs.Instance.{Instance}
-use Rattle.consensus.specs.State.{State, undecided, state_of}
+use Rattle.consensus.specs.State.{state_of}
+use Rattle.consensus.specs.declared.State.{State}
+use Rattle.consensus.specs.declared.State.TheVariants.{Undecided as undecided}
 use Rattle.coordinator.specs.Round.{states_after}
 use Rattle.coordinator.specs.Undecided.{any_undecided}
 use Rattle.coordinator.specs.Count.{speaks, data_in, commits_in}

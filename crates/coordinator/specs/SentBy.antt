@@ -3,7 +3,7 @@
 use Rattle.std.specs.Prelude.{List, ℕ, zero, suc, replicate}
 use Rattle.general.specs.Counts.{add_at}
 use Rattle.consensus.specs.Instance.{Instance}
-use Rattle.consensus.specs.State.{State}
+use Rattle.consensus.specs.declared.State.{State}
 use Rattle.coordinator.specs.Count.{data_in, commits_in}
 use Rattle.coordinator.specs.Run.{run_to, last_round}
 

@@ -5,8 +5,12 @@
 use Rattle.std.specs.Prelude.{List, cond, ℕ, ◌-◌, eqb, ltb}
 use Rattle.std.specs.Int.Bits.{bit_and}
 use Rattle.general.specs.Bits.{ones64, set_of}
-use Rattle.consensus.specs.Instance.{Instance, Fault, correct, crashes, CrashPoint, before_sending, during_data, during_commits, fault_of}
-use Rattle.consensus.specs.State.{State}
+use Rattle.consensus.specs.Instance.{Instance, fault_of}
+use Rattle.consensus.specs.declared.Fault.{Fault}
+use Rattle.consensus.specs.declared.Fault.TheVariants.{Correct as correct, Crashes as crashes}
+use Rattle.consensus.specs.declared.CrashPoint.{CrashPoint}
+use Rattle.consensus.specs.declared.CrashPoint.TheVariants.{BeforeSending as before_sending, DuringData as during_data, DuringCommits as during_commits}
+use Rattle.consensus.specs.declared.State.{State}
 use Rattle.coordinator.specs.Undecided.{undecided_among}
 use Rattle.coordinator.specs.Count.{speaks}
 

@@ -1,7 +1,9 @@
 -- Processes up and undecided (document 01, 'A round': 'The run ends when no station is both up and undecided').
 use Rattle.std.specs.Prelude.{List, [], ◌∷◌, Bool, true, false, ◌||◌, ℕ}
 use Rattle.general.specs.Bits.{set_of}
-use Rattle.consensus.specs.State.{State, undecided, decided, crashed, state_of}
+use Rattle.consensus.specs.State.{state_of}
+use Rattle.consensus.specs.declared.State.{State}
+use Rattle.consensus.specs.declared.State.TheVariants.{Undecided as undecided, Decided as decided, Crashed as crashed}
 
 -- Whether a process in this state is both up and undecided.
 unfoldable pub is_undecided : State → Bool

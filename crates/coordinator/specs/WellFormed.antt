@@ -1,6 +1,9 @@
 -- What refusals 1 to 8 leave of a coordinator ticket's instance (document 01, 'The ticket').
 use Rattle.std.specs.Prelude.{◌≡◌, ℕ, ◌+◌, ◌%◌, ◌^◌, ◌≤◌, ◌<◌}
-use Rattle.consensus.specs.Instance.{Instance, Fault, CrashPoint, before_sending, during_data, during_commits}
+use Rattle.consensus.specs.Instance.{Instance}
+use Rattle.consensus.specs.declared.Fault.{Fault}
+use Rattle.consensus.specs.declared.CrashPoint.{CrashPoint}
+use Rattle.consensus.specs.declared.CrashPoint.TheVariants.{BeforeSending as before_sending, DuringData as during_data, DuringCommits as during_commits}
 use Rattle.consensus.specs.WellFormed.{FaultAllowedBy, WellFormedBy}
 
 -- Process p, of n, may crash in this round at this point: steps 01 and 02 in its own round, data reaching only processes above it, at most n - p commits.

@@ -2,8 +2,10 @@
 -- as decided, not dark").
 use Rattle.std.specs.Prelude.{cond}
 use Rattle.general.specs.Indexed.{map_from}
-use Rattle.consensus.specs.Instance.{Instance, Fault, correct, crashes}
-use Rattle.consensus.specs.State.{State}
+use Rattle.consensus.specs.Instance.{Instance}
+use Rattle.consensus.specs.declared.Fault.{Fault}
+use Rattle.consensus.specs.declared.Fault.TheVariants.{Correct as correct, Crashes as crashes}
+use Rattle.consensus.specs.declared.State.{State}
 use Rattle.consensus.specs.CrashCount.{is_idle}
 use Rattle.coordinator.specs.Run.{end_of}
 

@@ -2,7 +2,8 @@
 use Rattle.std.specs.Prelude.{List, [], ◌∷◌, ◌++◌, ◌≡◌, cond, ℕ, zero, suc, ◌+◌, ◌-◌, ◌*◌, ◌/◌, length}
 use Rattle.general.specs.Bits.{ones64}
 use Rattle.general.specs.Counts.{sum_to}
-use Rattle.consensus.specs.Instance.{Instance, CrashPoint, fault_of}
+use Rattle.consensus.specs.Instance.{Instance, fault_of}
+use Rattle.consensus.specs.declared.CrashPoint.{CrashPoint}
 use Rattle.coordinator.specs.Undecided.{undecided_among}
 use Rattle.coordinator.specs.Count.{speaks}
 use Rattle.coordinator.specs.Run.{run_to, last_round, run_of, crashes_of, latest_of}

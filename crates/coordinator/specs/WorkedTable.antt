@@ -2,8 +2,11 @@
 -- Papers 2 and 4, for what counts of what each process sent, Paper 6, for the settling round, and Paper 7, for the reasons).
 -- Cases 1 to 12 as texts, with their results and refusals, are in crate answers.
 use Rattle.std.specs.Prelude.{List, [], ◌∷◌, ◌++◌, ℕ}
-use Rattle.consensus.specs.Instance.{Instance, correct, crashes, before_sending, during_data, during_commits}
-use Rattle.consensus.specs.State.{State, decided, crashed}
+use Rattle.consensus.specs.Instance.{Instance}
+use Rattle.consensus.specs.declared.Fault.TheVariants.{Correct as correct, Crashes as crashes}
+use Rattle.consensus.specs.declared.CrashPoint.TheVariants.{BeforeSending as before_sending, DuringData as during_data, DuringCommits as during_commits}
+use Rattle.consensus.specs.declared.State.{State}
+use Rattle.consensus.specs.declared.State.TheVariants.{Decided as decided, Crashed as crashed}
 use Rattle.consensus.specs.FourProcesses.{four, first_crashes, after_one_commit, data_to_the_last, idle_besides, idle_alone}
 use Rattle.consensus.specs.ClaimCases.{case1_ends, case8_ends}
 

@@ -18,7 +18,9 @@ use Rattle.general.proofs.Lists.{get_d_inside}
 use Rattle.general.proofs.Indexed.{count_same, count_map_from, count_apart, count_stricter, count_above, count_some}
 use Rattle.general.proofs.Sets.{member_and, member_set, set_within, set_size, is_set}
 use Rattle.consensus.specs.Instance.{Instance, fault_of}
-use Rattle.consensus.specs.State.{State, undecided, decided, crashed, state_of, crashes_in}
+use Rattle.consensus.specs.State.{state_of, crashes_in}
+use Rattle.consensus.specs.declared.State.{State}
+use Rattle.consensus.specs.declared.State.TheVariants.{Undecided as undecided, Decided as decided, Crashed as crashed}
 use Rattle.coordinator.specs.Message.{Reach, none, data_only, all, arriving, gets_data, gets_commit}
 use Rattle.coordinator.specs.Transition.{sends, receives}
 use Rattle.coordinator.specs.Delivery.{reach_in, reach}

@@ -7,9 +7,12 @@ use native.Mathlib.Omega.{arith}
 use native.Mathlib.Nat.{lt_of_not-le}
 use Rattle.coordinator.specs.Message.{Messages, nothing, estimate, estimate_and_commit, all}
 use Rattle.coordinator.specs.Transition.{receives}
-use Rattle.consensus.specs.Instance.{Instance, Fault, fault_of}
+use Rattle.consensus.specs.Instance.{Instance, fault_of}
+use Rattle.consensus.specs.declared.Fault.{Fault}
 use Rattle.coordinator.specs.Delivery.{reach_in}
-use Rattle.consensus.specs.State.{State, undecided, decided, crashed, crashes_in}
+use Rattle.consensus.specs.State.{crashes_in}
+use Rattle.consensus.specs.declared.State.{State}
+use Rattle.consensus.specs.declared.State.TheVariants.{Undecided as undecided, Decided as decided, Crashed as crashed}
 use Rattle.coordinator.specs.Round.{after_outcome}
 use Rattle.coordinator_laws.proofs.Pointwise.{state_at}
 use Rattle.coordinator_laws.proofs.Rounds.{Hears, hears_commit, received_commit, Becomes, stays_decided, stays_crashed, crashing, coordinates, listens}

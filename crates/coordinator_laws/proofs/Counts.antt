@@ -12,7 +12,7 @@ use native.Mathlib.Decide.{le_ind}
 use lib.ListN.{length}
 use Rattle.general.proofs.Tests.{cond_le}
 use Rattle.consensus.specs.Instance.{Instance}
-use Rattle.consensus.specs.State.{undecided}
+use Rattle.consensus.specs.declared.State.TheVariants.{Undecided as undecided}
 use Rattle.coordinator.specs.Undecided.{is_undecided, any_undecided}
 use Rattle.coordinator.specs.Count.{speaks}
 use Rattle.coordinator.specs.Run.{Run, initial, with_round, run_to, run_of, crashes_of, last_round}

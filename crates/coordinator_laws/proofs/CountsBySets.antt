@@ -2,7 +2,9 @@
 -- instances. Assumes nothing else.
 use mathlib.Core.Path.{◌≡◌, ◌∙◌}
 use Prim.Native.Nat.{ℕ, ◌≤◌}
-use Rattle.consensus.specs.Instance.{Instance, crashes, CrashPoint, fault_of}
+use Rattle.consensus.specs.Instance.{Instance, fault_of}
+use Rattle.consensus.specs.declared.Fault.TheVariants.{Crashes as crashes}
+use Rattle.consensus.specs.declared.CrashPoint.{CrashPoint}
 use Rattle.consensus.specs.WellFormed.{FaultAllowedBy}
 use Rattle.coordinator.specs.Message.{gets_data, gets_commit}
 use Rattle.coordinator.specs.Count.{data_in, commits_in}

@@ -8,8 +8,12 @@ use native.Mathlib.Numerals.{unary_clauses}
 use native.Mathlib.Omega.{arith}
 use lib.ListN.{length}
 use borrow.Author.Tests.{lt-ltb}
-use Rattle.consensus.specs.Instance.{Instance, crashes, CrashPoint, fault_of}
-use Rattle.consensus.specs.State.{State, undecided, decided, crashed, state_of}
+use Rattle.consensus.specs.Instance.{Instance, fault_of}
+use Rattle.consensus.specs.declared.Fault.TheVariants.{Crashes as crashes}
+use Rattle.consensus.specs.declared.CrashPoint.{CrashPoint}
+use Rattle.consensus.specs.State.{state_of}
+use Rattle.consensus.specs.declared.State.{State}
+use Rattle.consensus.specs.declared.State.TheVariants.{Undecided as undecided, Decided as decided, Crashed as crashed}
 use Rattle.consensus.specs.CrashCount.{is_idle, counts_as_crash, has_crashed, crashed_count}
 use Rattle.consensus.specs.WellFormed.{FaultAllowedBy}
 use Rattle.consensus.specs.Consensus.{IsProcess, CrashesAsSaid, CrashesNoOther}

@@ -9,7 +9,10 @@ use lib.Dec.{eqb}
 use borrow.Author.Tests.{lt-ltb, ltb-true}
 use Rattle.general.specs.Bits.{member}
 use Rattle.coordinator.specs.Message.{none, data_only, all}
-use Rattle.consensus.specs.Instance.{Fault, correct, crashes, CrashPoint, before_sending, during_data, during_commits}
+use Rattle.consensus.specs.declared.Fault.{Fault}
+use Rattle.consensus.specs.declared.Fault.TheVariants.{Correct as correct, Crashes as crashes}
+use Rattle.consensus.specs.declared.CrashPoint.{CrashPoint}
+use Rattle.consensus.specs.declared.CrashPoint.TheVariants.{BeforeSending as before_sending, DuringData as during_data, DuringCommits as during_commits}
 use Rattle.coordinator.specs.Delivery.{among_first, reach_at, reach_in}
 use Rattle.consensus.specs.State.{crashes_in}
 

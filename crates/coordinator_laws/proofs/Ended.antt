@@ -8,8 +8,10 @@ use native.Mathlib.Nat.{add-zero}
 use native.Mathlib.Decide.{le_ind}
 use Rattle.general.specs.Indexed.{map_from}
 use Rattle.coordinator.specs.Message.{Messages}
-use Rattle.consensus.specs.Instance.{Instance, Fault}
-use Rattle.consensus.specs.State.{State, undecided, decided, crashed}
+use Rattle.consensus.specs.Instance.{Instance}
+use Rattle.consensus.specs.declared.Fault.{Fault}
+use Rattle.consensus.specs.declared.State.{State}
+use Rattle.consensus.specs.declared.State.TheVariants.{Undecided as undecided, Decided as decided, Crashed as crashed}
 use Rattle.coordinator.specs.Round.{after, states_after}
 use Rattle.coordinator.specs.Undecided.{is_undecided, any_undecided}
 use Rattle.coordinator.specs.Count.{speaks, carried_in, data_in, commits_in}

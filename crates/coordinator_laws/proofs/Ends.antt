@@ -4,8 +4,11 @@ use Prim.Native.Nat.{ℕ}
 use native.Mathlib.Omega.{arith}
 use lib.ListN.{length}
 use Rattle.general.proofs.Indexed.{length-map_from, map_from_at}
-use Rattle.consensus.specs.Instance.{Instance, correct}
-use Rattle.consensus.specs.State.{State, decided, crashed, state_of}
+use Rattle.consensus.specs.Instance.{Instance}
+use Rattle.consensus.specs.declared.Fault.TheVariants.{Correct as correct}
+use Rattle.consensus.specs.State.{state_of}
+use Rattle.consensus.specs.declared.State.{State}
+use Rattle.consensus.specs.declared.State.TheVariants.{Decided as decided, Crashed as crashed}
 use Rattle.coordinator.specs.Run.{run_of, last_round, end_of}
 use Rattle.coordinator.specs.WellFormed.{WellFormed}
 use Rattle.consensus.specs.Consensus.{IsProcess, Decides, ends_of}

@@ -7,8 +7,13 @@ use native.Mathlib.Nat.{lt_of_not-le}
 use borrow.Author.Tests.{eq-eqb, eqb-true}
 use Rattle.coordinator.specs.Message.{Messages}
 use Rattle.coordinator.specs.Transition.{Outcome, continues, decides, receives}
-use Rattle.consensus.specs.Instance.{Instance, Fault, correct, crashes, CrashPoint, fault_of}
-use Rattle.consensus.specs.State.{State, undecided, decided, crashed, crashes_in}
+use Rattle.consensus.specs.Instance.{Instance, fault_of}
+use Rattle.consensus.specs.declared.Fault.{Fault}
+use Rattle.consensus.specs.declared.Fault.TheVariants.{Correct as correct, Crashes as crashes}
+use Rattle.consensus.specs.declared.CrashPoint.{CrashPoint}
+use Rattle.consensus.specs.State.{crashes_in}
+use Rattle.consensus.specs.declared.State.{State}
+use Rattle.consensus.specs.declared.State.TheVariants.{Undecided as undecided, Decided as decided, Crashed as crashed}
 use Rattle.coordinator.specs.Round.{after_outcome}
 use Rattle.coordinator_laws.proofs.Pointwise.{state_at}
 use Rattle.coordinator_laws.proofs.Rounds.{Becomes, stays_decided, stays_crashed, crashing, coordinates, listens, after_crashing}

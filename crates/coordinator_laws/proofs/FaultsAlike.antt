@@ -8,8 +8,11 @@ use lib.Dec.{ltb}
 use lib.ListN.{length}
 use Rattle.general.specs.Indexed.{count_from}
 use Rattle.general.proofs.Indexed.{length-map_from, count_same}
-use Rattle.consensus.specs.Instance.{Instance, Fault, fault_of}
-use Rattle.consensus.specs.State.{State, undecided, decided, crashed, state_of, crashes_in}
+use Rattle.consensus.specs.Instance.{Instance, fault_of}
+use Rattle.consensus.specs.declared.Fault.{Fault}
+use Rattle.consensus.specs.State.{state_of, crashes_in}
+use Rattle.consensus.specs.declared.State.{State}
+use Rattle.consensus.specs.declared.State.TheVariants.{Undecided as undecided, Decided as decided, Crashed as crashed}
 use Rattle.coordinator.specs.Message.{Messages, Reach, none, gets_data, gets_commit}
 use Rattle.coordinator.specs.Delivery.{reach, reach_in}
 use Rattle.coordinator.specs.Round.{sent_by, received, after, states_after}

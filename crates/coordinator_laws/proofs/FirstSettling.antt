@@ -9,7 +9,7 @@ use borrow.Author.Tests.{le-leb, lt-leb, leb-true}
 use Rattle.general.proofs.Tests.{both, by_order}
 use Rattle.general.proofs.Search.{none_lower, found_passes, found}
 use Rattle.consensus.specs.Instance.{Instance}
-use Rattle.consensus.specs.State.{undecided, decided}
+use Rattle.consensus.specs.declared.State.TheVariants.{Undecided as undecided, Decided as decided}
 use Rattle.consensus.specs.Consensus.{IsProcess, Decides}
 use Rattle.coordinator.specs.Undecided.{is_undecided, any_undecided}
 use Rattle.coordinator.specs.Run.{run_to, run_of, last_round, end_of}

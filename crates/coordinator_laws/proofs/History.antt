@@ -5,7 +5,8 @@ use native.Mathlib.Omega.{arith}
 use native.Mathlib.Decide.{le_ind}
 use Rattle.coordinator.specs.Message.{Messages}
 use Rattle.consensus.specs.Instance.{Instance, fault_of}
-use Rattle.consensus.specs.State.{State, undecided, decided, crashed}
+use Rattle.consensus.specs.declared.State.{State}
+use Rattle.consensus.specs.declared.State.TheVariants.{Undecided as undecided, Decided as decided, Crashed as crashed}
 use Rattle.coordinator_laws.proofs.Pointwise.{received_in, state_at}
 use Rattle.coordinator_laws.proofs.Rounds.{Hears, hears, Becomes, becomes, after_decided, after_crashed}
 

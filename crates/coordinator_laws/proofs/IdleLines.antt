@@ -14,8 +14,12 @@ use Rattle.general.specs.Counts.{add_at}
 use Rattle.general.proofs.Indexed.{length-map_from, map_from_at}
 use Rattle.general.proofs.Tests.{by_order}
 use Rattle.general.proofs.Search.{found_same}
-use Rattle.consensus.specs.Instance.{Instance, Fault, correct, crashes, fault_of}
-use Rattle.consensus.specs.State.{State, undecided, decided, crashed, state_of, crashes_in}
+use Rattle.consensus.specs.Instance.{Instance, fault_of}
+use Rattle.consensus.specs.declared.Fault.{Fault}
+use Rattle.consensus.specs.declared.Fault.TheVariants.{Correct as correct, Crashes as crashes}
+use Rattle.consensus.specs.State.{state_of, crashes_in}
+use Rattle.consensus.specs.declared.State.{State}
+use Rattle.consensus.specs.declared.State.TheVariants.{Undecided as undecided, Decided as decided, Crashed as crashed}
 use Rattle.consensus.specs.CrashCount.{is_idle, crashed_count}
 use Rattle.consensus.specs.WellFormed.{FaultAllowedBy, fault_count}
 use Rattle.consensus.specs.Consensus.{IsProcess}

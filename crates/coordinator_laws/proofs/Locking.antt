@@ -6,8 +6,10 @@ use Prim.Native.Nat.{ℕ, zero, suc, ◌≤◌, ◌<◌}
 use native.Mathlib.Omega.{arith}
 use Rattle.coordinator.specs.Message.{Messages}
 use Rattle.coordinator.specs.Transition.{receives}
-use Rattle.consensus.specs.Instance.{Instance, Fault, fault_of}
-use Rattle.consensus.specs.State.{State, undecided, decided, crashed}
+use Rattle.consensus.specs.Instance.{Instance, fault_of}
+use Rattle.consensus.specs.declared.Fault.{Fault}
+use Rattle.consensus.specs.declared.State.{State}
+use Rattle.consensus.specs.declared.State.TheVariants.{Undecided as undecided, Decided as decided, Crashed as crashed}
 use Rattle.coordinator.specs.Round.{after_outcome}
 use Rattle.coordinator_laws.proofs.Pointwise.{state_at}
 use Rattle.coordinator_laws.proofs.Rounds.{Hears, below, from_decided, from_crashed, unreached, data_alone, data_and_commit}

@@ -12,7 +12,7 @@ use Rattle.general.specs.Counts.{count_of, add_at}
 use Rattle.general.proofs.Counts.{none_added, length-by, count_by, sum_by}
 use Rattle.general.proofs.Tests.{by_order}
 use Rattle.consensus.specs.Instance.{Instance}
-use Rattle.consensus.specs.State.{State}
+use Rattle.consensus.specs.declared.State.{State}
 use Rattle.consensus.specs.Consensus.{IsProcess}
 use Rattle.coordinator.specs.Undecided.{any_undecided}
 use Rattle.coordinator.specs.Count.{speaks, carried_in, data_in, commits_in}

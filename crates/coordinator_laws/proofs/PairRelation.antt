@@ -7,9 +7,13 @@ use native.Mathlib.Omega.{arith}
 use lib.Dec.{eqb, ltb}
 use borrow.Author.Tests.{eqb-true, ltb-true, ltb-false}
 use Rattle.coordinator.specs.Message.{Reach, none, data_only, all}
-use Rattle.consensus.specs.Instance.{Fault, crashes, during_commits}
+use Rattle.consensus.specs.declared.Fault.{Fault}
+use Rattle.consensus.specs.declared.Fault.TheVariants.{Crashes as crashes}
+use Rattle.consensus.specs.declared.CrashPoint.TheVariants.{DuringCommits as during_commits}
 use Rattle.coordinator.specs.Delivery.{among_first, reach_at, reach_in, reach}
-use Rattle.consensus.specs.State.{State, undecided, decided, crashed, crashes_in}
+use Rattle.consensus.specs.State.{crashes_in}
+use Rattle.consensus.specs.declared.State.{State}
+use Rattle.consensus.specs.declared.State.TheVariants.{Undecided as undecided, Decided as decided, Crashed as crashed}
 use Rattle.consensus.specs.WellFormed.{FaultAllowedBy}
 use Rattle.coordinator.specs.WellFormed.{PointAllowed, FaultAllowed}
 use Rattle.coordinator_laws.specs.Pairing.{LinePaired, same, more_commits, missing}

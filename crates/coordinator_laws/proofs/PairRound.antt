@@ -9,10 +9,12 @@ use native.Mathlib.Omega.{arith}
 use lib.Dec.{eqb}
 use borrow.Author.Tests.{eq-eqb}
 use Rattle.coordinator.specs.Message.{Messages, nothing, estimate, estimate_and_commit, Reach, none, data_only, all, arriving}
-use Rattle.consensus.specs.Instance.{Fault}
+use Rattle.consensus.specs.declared.Fault.{Fault}
 use Rattle.coordinator.specs.Transition.{sends, receives}
 use Rattle.coordinator.specs.Delivery.{reach}
-use Rattle.consensus.specs.State.{State, undecided, decided, crashed, crashes_in}
+use Rattle.consensus.specs.State.{crashes_in}
+use Rattle.consensus.specs.declared.State.{State}
+use Rattle.consensus.specs.declared.State.TheVariants.{Undecided as undecided, Decided as decided, Crashed as crashed}
 use Rattle.coordinator.specs.Round.{sent_by, received, after_outcome, after}
 use Rattle.coordinator.specs.WellFormed.{FaultAllowed}
 use Rattle.coordinator_laws.specs.Pairing.{LinePaired}

@@ -9,7 +9,9 @@ use Rattle.general.proofs.Indexed.{length-map_from, map_from_at, numbered_ext}
 use Rattle.general.proofs.Lists.{get_d_inside}
 use Rattle.coordinator.specs.Message.{Messages}
 use Rattle.consensus.specs.Instance.{Instance, proposal_of, fault_of}
-use Rattle.consensus.specs.State.{State, undecided, crashed, state_of}
+use Rattle.consensus.specs.State.{state_of}
+use Rattle.consensus.specs.declared.State.{State}
+use Rattle.consensus.specs.declared.State.TheVariants.{Undecided as undecided, Crashed as crashed}
 use Rattle.coordinator.specs.Round.{received, after, states_after}
 use Rattle.coordinator.specs.Run.{initial, with_round, run_to}
 

@@ -7,9 +7,11 @@ use native.Mathlib.Omega.{arith}
 use lib.Dec.{eqb}
 use borrow.Author.Tests.{eq-eqb, ne_eqb}
 use Rattle.coordinator.specs.Message.{Messages, nothing, estimate, estimate_and_commit}
-use Rattle.consensus.specs.Instance.{Instance, Fault, fault_of}
+use Rattle.consensus.specs.Instance.{Instance, fault_of}
+use Rattle.consensus.specs.declared.Fault.{Fault}
 use Rattle.coordinator.specs.Transition.{receives}
-use Rattle.consensus.specs.State.{State, undecided, decided, crashed}
+use Rattle.consensus.specs.declared.State.{State}
+use Rattle.consensus.specs.declared.State.TheVariants.{Undecided as undecided, Decided as decided, Crashed as crashed}
 use Rattle.coordinator.specs.Round.{after_outcome}
 use Rattle.coordinator.specs.Reason.{reason_hearing, reason_from}
 use Rattle.coordinator_laws.proofs.Pointwise.{state_at}

@@ -6,8 +6,12 @@ use Prim.Native.Nat.{ℕ, suc, ◌≤◌, ◌<◌}
 use native.Mathlib.Omega.{arith}
 use lib.Dec.{eqb}
 use borrow.Author.Tests.{lt-ltb, eq-eqb}
-use Rattle.consensus.specs.Instance.{Instance, Fault, crashes, CrashPoint, fault_of}
-use Rattle.consensus.specs.State.{State, undecided, decided, crashed}
+use Rattle.consensus.specs.Instance.{Instance, fault_of}
+use Rattle.consensus.specs.declared.Fault.{Fault}
+use Rattle.consensus.specs.declared.Fault.TheVariants.{Crashes as crashes}
+use Rattle.consensus.specs.declared.CrashPoint.{CrashPoint}
+use Rattle.consensus.specs.declared.State.{State}
+use Rattle.consensus.specs.declared.State.TheVariants.{Undecided as undecided, Decided as decided, Crashed as crashed}
 use Rattle.consensus.specs.Consensus.{IsProcess}
 use Rattle.coordinator.specs.Message.{Reach, none, data_only, all, arriving, gets_data}
 use Rattle.coordinator.specs.Transition.{sends}

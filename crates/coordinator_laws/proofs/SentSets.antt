@@ -10,7 +10,10 @@ use Rattle.general.specs.Bits.{member, set_of}
 use Rattle.general.proofs.Tests.{same_test}
 use Rattle.general.proofs.Bits.{member_above}
 use Rattle.general.proofs.Sets.{is_set, set_same, set_empty}
-use Rattle.consensus.specs.Instance.{Fault, correct, crashes, CrashPoint, before_sending, during_data, during_commits}
+use Rattle.consensus.specs.declared.Fault.{Fault}
+use Rattle.consensus.specs.declared.Fault.TheVariants.{Correct as correct, Crashes as crashes}
+use Rattle.consensus.specs.declared.CrashPoint.{CrashPoint}
+use Rattle.consensus.specs.declared.CrashPoint.TheVariants.{BeforeSending as before_sending, DuringData as during_data, DuringCommits as during_commits}
 use Rattle.consensus.specs.State.{crashes_in}
 use Rattle.coordinator.specs.Message.{Reach, none, data_only, all, gets_data, gets_commit}
 use Rattle.coordinator.specs.Delivery.{among_first, reach_at, reach_in, reach}

@@ -13,7 +13,9 @@ use lib.Dec.{eqb}
 use lib.ListN.{length, get_or}
 use Rattle.general.proofs.Tests.{both}
 use Rattle.consensus.specs.Instance.{Instance}
-use Rattle.consensus.specs.State.{State, undecided, decided, crashed, state_of}
+use Rattle.consensus.specs.State.{state_of}
+use Rattle.consensus.specs.declared.State.{State}
+use Rattle.consensus.specs.declared.State.TheVariants.{Undecided as undecided, Decided as decided, Crashed as crashed}
 use Rattle.consensus.specs.Consensus.{IsProcess}
 use Rattle.coordinator.specs.Undecided.{any_undecided}
 use Rattle.coordinator.specs.Run.{run_to, run_of, last_round, end_of}

@@ -4,8 +4,10 @@ use mathlib.Core.Path.{◌≡◌, subst}
 use Prim.Native.Nat.{ℕ, zero, suc, ◌^◌, ◌<◌}
 use Rattle.coordinator.specs.Message.{Messages, nothing, estimate, estimate_and_commit}
 use Rattle.coordinator.specs.Transition.{receives}
-use Rattle.consensus.specs.Instance.{Instance, Fault, proposal_of}
-use Rattle.consensus.specs.State.{State, undecided, decided, crashed}
+use Rattle.consensus.specs.Instance.{Instance, proposal_of}
+use Rattle.consensus.specs.declared.Fault.{Fault}
+use Rattle.consensus.specs.declared.State.{State}
+use Rattle.consensus.specs.declared.State.TheVariants.{Undecided as undecided, Decided as decided, Crashed as crashed}
 use Rattle.coordinator.specs.Round.{after_outcome}
 use Rattle.coordinator.specs.WellFormed.{WellFormed}
 use Rattle.coordinator_laws.proofs.Pointwise.{state_at}

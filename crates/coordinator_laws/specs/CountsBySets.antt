@@ -1,7 +1,8 @@
 -- What a round counts by whom its messages reach (Count) it counts by sets too (SentSets).
 use Rattle.std.specs.Prelude.{List, ◌≡◌, ℕ, ◌≤◌, length}
-use Rattle.consensus.specs.Instance.{Instance, CrashPoint}
-use Rattle.consensus.specs.State.{State}
+use Rattle.consensus.specs.Instance.{Instance}
+use Rattle.consensus.specs.declared.CrashPoint.{CrashPoint}
+use Rattle.consensus.specs.declared.State.{State}
 use Rattle.coordinator.specs.Count.{data_in, commits_in}
 use Rattle.coordinator.specs.SentSets.{data_set_at, commit_set_at, ones_in_common}
 

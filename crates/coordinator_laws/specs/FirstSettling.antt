@@ -1,7 +1,9 @@
 -- What is claimed of the settling round (document 02, Paper 6: "The operation must name the lowest that qualifies").
 use Rattle.std.specs.Prelude.{◌≡◌, true, false, ℕ, ◌≤◌, ◌<◌}
 use Rattle.consensus.specs.Instance.{Instance}
-use Rattle.consensus.specs.State.{State, undecided, decided, crashed, state_of}
+use Rattle.consensus.specs.State.{state_of}
+use Rattle.consensus.specs.declared.State.{State}
+use Rattle.consensus.specs.declared.State.TheVariants.{Undecided as undecided, Decided as decided, Crashed as crashed}
 use Rattle.consensus.specs.Consensus.{IsProcess, Decides}
 use Rattle.coordinator.specs.Run.{run_to, run_of, end_of}
 use Rattle.coordinator.specs.Settling.{qualifies}

@@ -2,7 +2,7 @@
 use Rattle.std.specs.Prelude.{List, ◌≡◌, ℕ, ◌-◌, ◌≤◌, ◌<◌, length}
 use Rattle.general.specs.Counts.{count_of, sum_to}
 use Rattle.consensus.specs.Instance.{Instance}
-use Rattle.consensus.specs.State.{State}
+use Rattle.consensus.specs.declared.State.{State}
 use Rattle.consensus.specs.Consensus.{IsProcess}
 use Rattle.coordinator.specs.Count.{data_in, commits_in}
 use Rattle.coordinator.specs.Run.{run_to, run_of}

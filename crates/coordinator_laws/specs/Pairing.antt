@@ -1,7 +1,10 @@
 -- Pairing by instance, of demand 3's second half (document 01, 'A round', last paragraph): `Demand3` of demands/specs is stated in it, and texts
 -- that are paired line by line (`PairedTexts`) describe instances that are paired so.
 use Rattle.std.specs.Prelude.{◌≡◌, ℕ, ◌≤◌}
-use Rattle.consensus.specs.Instance.{Instance, Fault, correct, crashes, during_commits, fault_of}
+use Rattle.consensus.specs.Instance.{Instance, fault_of}
+use Rattle.consensus.specs.declared.Fault.{Fault}
+use Rattle.consensus.specs.declared.Fault.TheVariants.{Correct as correct, Crashes as crashes}
+use Rattle.consensus.specs.declared.CrashPoint.TheVariants.{DuringCommits as during_commits}
 use Rattle.consensus.specs.Consensus.{IsProcess}
 
 -- The failure lines of one process in two instances: the same (or none in both), or of the commit step with as many commits or more in the second, or of

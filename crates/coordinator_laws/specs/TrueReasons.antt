@@ -1,7 +1,10 @@
 -- What makes a reason true, and the claim that exactly one is (document 02, Paper 7: "The reason given is the true one, and exactly one applies").
 use Rattle.std.specs.Prelude.{◌≡◌, cond, ℕ, ◌≤◌, ◌<◌, eqb}
-use Rattle.consensus.specs.Instance.{Instance, crashes, CrashPoint, fault_of}
-use Rattle.consensus.specs.State.{State, undecided, decided, crashed}
+use Rattle.consensus.specs.Instance.{Instance, fault_of}
+use Rattle.consensus.specs.declared.Fault.TheVariants.{Crashes as crashes}
+use Rattle.consensus.specs.declared.CrashPoint.{CrashPoint}
+use Rattle.consensus.specs.declared.State.{State}
+use Rattle.consensus.specs.declared.State.TheVariants.{Undecided as undecided, Decided as decided, Crashed as crashed}
 use Rattle.consensus.specs.Consensus.{IsProcess, Decides}
 use Rattle.coordinator.specs.Message.{nothing, estimate, estimate_and_commit, gets_data}
 use Rattle.coordinator.specs.Delivery.{reach_at}

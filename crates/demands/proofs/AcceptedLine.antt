@@ -8,7 +8,8 @@ use borrow.Author.Tests.{eqb-true}
 use lib.Dec.{eqb}
 use lib.ListN.{length, get_or}
 use Rattle.general.proofs.Tests.{both}
-use Rattle.consensus.specs.Instance.{crashes, during_commits}
+use Rattle.consensus.specs.declared.Fault.TheVariants.{Crashes as crashes}
+use Rattle.consensus.specs.declared.CrashPoint.TheVariants.{DuringCommits as during_commits}
 use Rattle.ticket_format.specs.FailureLine.{fault_by}
 use Rattle.ticket_format.specs.Says.{is_kind, failure_line}
 use Rattle.ticket_laws.proofs.CrashAllowed.{commit_fault}

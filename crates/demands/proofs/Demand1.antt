@@ -26,8 +26,8 @@ use Rattle.coordinator_laws.proofs.FirstSettling.{first_settling_lem}
 use Rattle.answers.specs.Settle.{settling}
 use Rattle.answers.specs.Reason.{reason, reasons}
 use Rattle.answers.specs.Reply.{answer_by, Writing}
-use Rattle.answers.specs.declared.Reply.{Reply}
-use Rattle.answers.specs.declared.Reply.TheVariants.{Refused}
+use Rattle.answers.specs.Reply.{Reply}
+use Rattle.answers.specs.Reply.{Refused}
 use Rattle.answers.proofs.Replies.{same_reply}
 use Rattle.answers.specs.Code.{code_of, number_code}
 use Rattle.pricing_format.specs.Quoting.{quoting}

@@ -3,7 +3,7 @@ use mathlib.Core.List.{List}
 use mathlib.Core.Path.{◌≡◌, refl, sym, ap, ◌∙◌}
 use Prim.Native.Nat.{ℕ, suc}
 use Rattle.consensus.specs.Instance.{Instance}
-use Rattle.consensus.specs.State.{State}
+use Rattle.consensus.specs.declared.State.{State}
 use Rattle.coordinator.specs.Run.{crashes_of, end_of, latest_of}
 use Rattle.consensus.specs.Consensus.{UniformConsensus, CountsCrashes, ends_of}
 use Rattle.consensus.specs.CrashCount.{crash_count, crashed_count}

@@ -20,7 +20,7 @@ use Rattle.ticket_laws.proofs.WellFormed.{accepted_well_formed}
 use Rattle.answers.proofs.ResultLength.{length-text}
 use Rattle.answers.specs.Reply.{size_of, Writing}
 use Rattle.answers.proofs.Replies.{same_reply}
-use Rattle.answers.specs.declared.Reply.{Reply}
+use Rattle.answers.specs.Reply.{Reply}
 use Rattle.ticket_format.proofs.RefusalRange.{RefusedBy, last_refused, ticket_refused}
 use Rattle.pricing_format.specs.Quoting.{quoting}
 use Rattle.pricing_format.specs.QuoteCall.{place_after, quote_code}

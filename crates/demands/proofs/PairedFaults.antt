@@ -5,7 +5,8 @@ use native.Mathlib.Omega.{arith}
 use lib.ListN.{length, length-set}
 use lib.Seq.{get_or-set_same, get_or-set_other}
 use Rattle.general.proofs.Tests.{by_equal}
-use Rattle.consensus.specs.Instance.{Instance, correct, fault_of}
+use Rattle.consensus.specs.Instance.{Instance, fault_of}
+use Rattle.consensus.specs.declared.Fault.TheVariants.{Correct as correct}
 use Rattle.coordinator_laws.specs.Pairing.{LinePaired, Paired}
 use Rattle.ticket_format.specs.declared.FailureLine.{FailureLine}
 use Rattle.ticket_format.specs.FailureLine.{fault_by}

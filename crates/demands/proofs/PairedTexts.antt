@@ -9,7 +9,8 @@ use lib.Dec.{eqb, ltb}
 use lib.ListN.{length, get_or, replicate, length-replicate}
 use Rattle.general.proofs.Tests.{both}
 use Rattle.general.proofs.Lists.{get_d_repeated}
-use Rattle.consensus.specs.Instance.{Instance, correct, fault_of}
+use Rattle.consensus.specs.Instance.{Instance, fault_of}
+use Rattle.consensus.specs.declared.Fault.TheVariants.{Correct as correct}
 use Rattle.coordinator_laws.specs.Pairing.{same, more_commits, missing, Paired}
 use Rattle.text.specs.Line.{Line, bytes, no_line}
 use Rattle.ticket_format.specs.LineVerdict.{next}

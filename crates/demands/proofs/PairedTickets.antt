@@ -6,7 +6,10 @@ use native.Mathlib.Omega.{arith}
 use lib.ListN.{length, get_or}
 use Rattle.general.specs.Indexed.{map_from}
 use Rattle.general.specs.BigEndian.{bytes_of}
-use Rattle.consensus.specs.Instance.{Instance, Fault, correct, crashes, during_commits, fault_of}
+use Rattle.consensus.specs.Instance.{Instance, fault_of}
+use Rattle.consensus.specs.declared.Fault.{Fault}
+use Rattle.consensus.specs.declared.Fault.TheVariants.{Correct as correct, Crashes as crashes}
+use Rattle.consensus.specs.declared.CrashPoint.TheVariants.{DuringCommits as during_commits}
 use Rattle.coordinator.specs.WellFormed.{WellFormed}
 use Rattle.coordinator_laws.specs.Pairing.{LinePaired, same, more_commits, missing, Paired}
 use Rattle.text.specs.Line.{Line, bytes}

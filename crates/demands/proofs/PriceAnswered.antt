@@ -10,7 +10,7 @@ use lib.ListN.{length, drop, length-drop}
 use Rattle.general.specs.BigEndian.{number}
 use Rattle.general.proofs.Bytes.{drop-bytes}
 use Rattle.general.proofs.BigEndian.{number_below}
-use Rattle.consensus.specs.State.{decided}
+use Rattle.consensus.specs.declared.State.TheVariants.{Decided as decided}
 use Rattle.general.specs.Answer.{Answer, accepted, refused}
 use Rattle.pricing.specs.Price.{price_of}
 use Rattle.pricing.specs.Quote.{lines_refusal, quote_by}

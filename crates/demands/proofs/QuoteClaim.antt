@@ -9,7 +9,8 @@ use lib.Dec.{eqb, leb}
 use Rattle.general.specs.BigEndian.{number}
 use Rattle.general.proofs.Tests.{both}
 use Rattle.consensus.specs.Instance.{Instance, proposal_of}
-use Rattle.consensus.specs.State.{State, undecided, decided, crashed}
+use Rattle.consensus.specs.declared.State.{State}
+use Rattle.consensus.specs.declared.State.TheVariants.{Undecided as undecided, Decided as decided, Crashed as crashed}
 use Rattle.consensus.specs.Consensus.{IsProcess, Decides, Validity, CrashesNoOther, CrashesUndecided}
 use Rattle.coordinator.specs.Run.{last_round, end_of, latest_of}
 use Rattle.coordinator.specs.WellFormed.{WellFormed}

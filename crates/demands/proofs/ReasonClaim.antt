@@ -23,8 +23,8 @@ use Rattle.answers.specs.Code.{code_of, refusals_from, size_code, number_code, R
 use Rattle.ticket_laws.proofs.WellFormed.{accepted_well_formed}
 use Rattle.answers.proofs.ReasonsLength.{length-reasons, reasons_fit, reason_at_lem, reason_inside}
 use Rattle.answers.specs.Reply.{answer_by, size_of, Explained}
-use Rattle.answers.specs.declared.Reply.{Reply}
-use Rattle.answers.specs.declared.Reply.TheVariants.{Given}
+use Rattle.answers.specs.Reply.{Reply}
+use Rattle.answers.specs.Reply.{Given}
 use Rattle.ticket_laws.proofs.RefusedTexts.{refused_wrong}
 use Rattle.demands.specs.ReasonClaim.{OnlyReason, ReasonAnswered, known, outside, ReasonsAnswered, place_of, AllReasons, ReasonClaim}
 use Rattle.demands.proofs.Answered.{unread_numbered}

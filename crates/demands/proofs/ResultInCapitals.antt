@@ -6,7 +6,8 @@ use native.Mathlib.Omega.{arith}
 use lib.ListN.{length, get_or}
 use Rattle.general.specs.Indexed.{map_from}
 use Rattle.consensus.specs.Instance.{Instance}
-use Rattle.consensus.specs.State.{State, crashed}
+use Rattle.consensus.specs.declared.State.{State}
+use Rattle.consensus.specs.declared.State.TheVariants.{Crashed as crashed}
 use Rattle.coordinator.specs.Run.{Run, run_of, crashes_of}
 use Rattle.text.specs.Capitals.{InCapitals}
 use Rattle.general.specs.Answer.{accepted}

@@ -13,7 +13,9 @@ use Rattle.general.specs.Counts.{count_of}
 use Rattle.general.proofs.Bytes.{Bytes, bytes_append}
 use Rattle.general.proofs.BigEndian.{bytes_of_number, number_bytes}
 use Rattle.general.proofs.Indexed.{length-map_from, map_from_at}
-use Rattle.consensus.specs.State.{State, undecided, decided, crashed, state_of}
+use Rattle.consensus.specs.State.{state_of}
+use Rattle.consensus.specs.declared.State.{State}
+use Rattle.consensus.specs.declared.State.TheVariants.{Undecided as undecided, Decided as decided, Crashed as crashed}
 use Rattle.coordinator.specs.Run.{Run}
 use Rattle.text.specs.Line.{Line, bytes, no_line, lines_of}
 use Rattle.ticket_format.specs.Says.{is_kind}

@@ -13,8 +13,8 @@ use Rattle.answers.specs.Code.{code_of, refusal_code, RunCall}
 use Rattle.answers.proofs.AnswerCases.{result_sizes}
 use Rattle.answers.proofs.ResultLength.{length-text}
 use Rattle.answers.specs.Reply.{answer_by, Ran}
-use Rattle.answers.specs.declared.Reply.{Reply}
-use Rattle.answers.specs.declared.Reply.TheVariants.{Given, Refused}
+use Rattle.answers.specs.Reply.{Reply}
+use Rattle.answers.specs.Reply.{Given, Refused}
 use Rattle.ticket_laws.proofs.WellFormed.{accepted_well_formed}
 use Rattle.answers.proofs.Replies.{same_reply}
 use Rattle.demands.specs.RoomClaim.{needed, Holds, RoomClaim}

@@ -14,8 +14,8 @@ use Rattle.ticket_format.specs.Ticket.{read_ticket}
 use Rattle.answers.specs.Settle.{settling}
 use Rattle.answers.specs.Code.{code_of, number_code}
 use Rattle.answers.specs.Reply.{answer_by}
-use Rattle.answers.specs.declared.Reply.{Reply}
-use Rattle.answers.specs.declared.Reply.TheVariants.{Given}
+use Rattle.answers.specs.Reply.{Reply}
+use Rattle.answers.specs.Reply.{Given}
 use Rattle.ticket_laws.proofs.WellFormed.{accepted_well_formed}
 use Rattle.demands.specs.SettlingClaim.{SettlingClaim}
 use Rattle.answers.proofs.Replies.{same_reply}

@@ -13,7 +13,10 @@ use Rattle.general.specs.Counts.{count_of, add_at}
 use Rattle.general.specs.Search.{lowest_from}
 use Rattle.general.specs.Table.{tabulate}
 use Rattle.general.specs.Text.{ascii}
-use Rattle.consensus.specs.Instance.{Instance, Fault, correct, crashes, before_sending, during_commits, point_from, fault_of, within_limits}
+use Rattle.consensus.specs.Instance.{Instance, point_from, fault_of, within_limits}
+use Rattle.consensus.specs.declared.Fault.{Fault}
+use Rattle.consensus.specs.declared.Fault.TheVariants.{Correct as correct, Crashes as crashes}
+use Rattle.consensus.specs.declared.CrashPoint.TheVariants.{BeforeSending as before_sending, DuringCommits as during_commits}
 use Rattle.consensus.specs.Consensus.{IsProcess, Decides}
 use Rattle.consensus.specs.FourProcesses.{four, first_crashes, after_one_commit, data_to_the_last}
 use Rattle.coordinator_laws.specs.Pairing.{LinePaired, same, more_commits, missing, Paired}

@@ -11,7 +11,7 @@ use Rattle.answers.specs.ResultLine.{result_text, result_size}
 use Rattle.answers.specs.Running.{running, buffer_after, written, program_writes}
 use Rattle.answers.specs.Code.{refusals_from}
 use Rattle.answers.specs.Reply.{answer_by, Ran}
-use Rattle.answers.specs.declared.Reply.TheVariants.{Given}
+use Rattle.answers.specs.Reply.{Given}
 use Rattle.ticket_laws.proofs.AcceptedTexts.{accepted_texts_lem}
 use Rattle.ticket_laws.proofs.WellFormed.{accepted_well_formed}
 use Rattle.ticket_format.proofs.Passing.{refused_accepted}

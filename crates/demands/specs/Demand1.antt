@@ -17,8 +17,8 @@ use Rattle.part_format.specs.Refused.{RefusedCallsChangeNothing, SpeakAnswersApa
 use Rattle.part_laws.specs.PartCalls.{PartCalls}
 use Rattle.answers.specs.Reason.{reason}
 use Rattle.answers.specs.Reply.{answer_by, Ran, Explained}
-use Rattle.answers.specs.declared.Reply.{Reply}
-use Rattle.answers.specs.declared.Reply.TheVariants.{Refused}
+use Rattle.answers.specs.Reply.{Reply}
+use Rattle.answers.specs.Reply.{Refused}
 use Rattle.answers.specs.Code.{refusals_from, refusal_code, RunCall, number_code}
 use Rattle.pricing_format.specs.Quoting.{quoting}
 

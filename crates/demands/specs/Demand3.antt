@@ -3,7 +3,7 @@
 -- Accepted means that refusals 1 to 8 let the text pass; the room for a result, refusal 9, plays no part in the rounds' claim.
 use Rattle.std.specs.Prelude.{List, ◌≡◌, ℕ, suc}
 use Rattle.consensus.specs.Instance.{Instance}
-use Rattle.consensus.specs.State.{State}
+use Rattle.consensus.specs.declared.State.{State}
 use Rattle.coordinator.specs.Run.{crashes_of, end_of, latest_of}
 use Rattle.consensus.specs.CrashCount.{crashed_count}
 use Rattle.consensus.specs.Consensus.{UniformConsensus, CountsCrashes, NoLater, ends_of}

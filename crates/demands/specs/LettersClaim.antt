@@ -11,7 +11,7 @@ use Rattle.answers.specs.Settle.{settling}
 use Rattle.answers.specs.Reason.{reason}
 use Rattle.answers.specs.Code.{RunCall, ReasonsCall, number_code}
 use Rattle.answers.specs.Reply.{answer_by, Ran, Explained}
-use Rattle.answers.specs.declared.Reply.{Reply}
+use Rattle.answers.specs.Reply.{Reply}
 use Rattle.pricing_format.specs.Quoting.{quoting}
 use Rattle.pricing_format.specs.QuoteCall.{QuoteCall}
 use Rattle.demands.specs.Written.{Wrote}

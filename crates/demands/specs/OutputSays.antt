@@ -6,7 +6,8 @@ use Rattle.std.proofs.Math.Option.{Option, some, none}
 use Rattle.general.specs.BigEndian.{number}
 use Rattle.general.specs.Counts.{count_of}
 use Rattle.consensus.specs.Instance.{Instance}
-use Rattle.consensus.specs.State.{State, decided, crashed}
+use Rattle.consensus.specs.declared.State.{State}
+use Rattle.consensus.specs.declared.State.TheVariants.{Decided as decided, Crashed as crashed}
 use Rattle.coordinator.specs.Run.{run_of, crashes_of}
 use Rattle.coordinator.specs.SentBy.{data_by, commits_by}
 use Rattle.consensus.specs.Consensus.{IsProcess}

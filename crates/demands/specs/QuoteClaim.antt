@@ -3,7 +3,7 @@
 -- desk outside 1 to n or dark.)").
 use Rattle.std.specs.Prelude.{List, ◌≡◌, ℕ, ◌≤◌}
 use Rattle.consensus.specs.Instance.{Instance}
-use Rattle.consensus.specs.State.{State}
+use Rattle.consensus.specs.declared.State.{State}
 use Rattle.consensus.specs.Consensus.{IsProcess, Decides, CrashesUndecided}
 use Rattle.coordinator.specs.Run.{last_round, end_of}
 use Rattle.general.specs.Answer.{accepted}
@@ -11,7 +11,7 @@ use Rattle.ticket_format.specs.Ticket.{read_ticket}
 use Rattle.ticket_laws.specs.FirstWrong.{FirstWrong}
 use Rattle.answers.specs.Code.{refusal_code}
 use Rattle.answers.specs.Reply.{answer_by}
-use Rattle.answers.specs.declared.Reply.TheVariants.{Given}
+use Rattle.answers.specs.Reply.{Given}
 use Rattle.pricing.specs.Price.{price_of}
 use Rattle.pricing.specs.PricedLines.{Priced, Unpriced}
 use Rattle.pricing.specs.Largest.{largest_quote}

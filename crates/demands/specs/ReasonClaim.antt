@@ -12,8 +12,8 @@ use Rattle.ticket_laws.specs.FirstWrong.{FirstWrong}
 use Rattle.answers.specs.Reason.{reason, reasons_size}
 use Rattle.answers.specs.Code.{refusals_from, refusal_code, number_code, ReasonsCall}
 use Rattle.answers.specs.Reply.{answer_by, Explained}
-use Rattle.answers.specs.declared.Reply.{Reply}
-use Rattle.answers.specs.declared.Reply.TheVariants.{Given}
+use Rattle.answers.specs.Reply.{Reply}
+use Rattle.answers.specs.Reply.{Given}
 use Rattle.demands.specs.OfAccepted.{OfAccepted}
 
 -- Given k is true of process p in round r, and no other is.

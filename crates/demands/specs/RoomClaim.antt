@@ -7,8 +7,8 @@ use Rattle.ticket_format.specs.Ticket.{read_ticket}
 use Rattle.answers.specs.ResultLine.{result_text}
 use Rattle.answers.specs.Code.{refusal_code, RunCall}
 use Rattle.answers.specs.Reply.{Ran}
-use Rattle.answers.specs.declared.Reply.{Reply}
-use Rattle.answers.specs.declared.Reply.TheVariants.{Given, Refused}
+use Rattle.answers.specs.Reply.{Reply}
+use Rattle.answers.specs.Reply.{Given, Refused}
 
 -- The bytes that the result of n processes needs.
 abbrev pub needed : (n : ℕ) → ℕ

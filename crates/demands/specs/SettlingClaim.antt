@@ -8,8 +8,8 @@ use Rattle.ticket_format.specs.Ticket.{read_ticket}
 use Rattle.answers.specs.Settle.{settling}
 use Rattle.answers.specs.Code.{number_code}
 use Rattle.answers.specs.Reply.{answer_by}
-use Rattle.answers.specs.declared.Reply.{Reply}
-use Rattle.answers.specs.declared.Reply.TheVariants.{Given}
+use Rattle.answers.specs.Reply.{Reply}
+use Rattle.answers.specs.Reply.{Given}
 
 pub record SettlingClaim : Type 0 where
   -- an accepted text is answered with a round, its first settling round, by the library's own contract and by the C call's

@@ -6,7 +6,7 @@
 use Rattle.std.specs.Prelude.{List, [], ◌∷◌, ◌++◌, map, ◌≡◌, ℕ, ◌<◌, replicate}
 use Rattle.std.proofs.Math.Option.{Option, some, none}
 use Rattle.consensus.specs.Instance.{Instance}
-use Rattle.consensus.specs.State.{crashed}
+use Rattle.consensus.specs.declared.State.TheVariants.{Crashed as crashed}
 use Rattle.consensus.specs.Consensus.{IsProcess, Decides}
 use Rattle.consensus.specs.FourProcesses.{after_one_commit, data_to_the_last}
 use Rattle.coordinator_laws.specs.Pairing.{Paired}
@@ -23,7 +23,7 @@ use Rattle.answers.specs.FurtherRuns.{crashes_later}
 use Rattle.answers.specs.LetterRuns.{case1_mixed}
 use Rattle.answers.specs.Code.{refusals_from, refusal_code, RunCall, ReasonsCall, number_code}
 use Rattle.answers.specs.Reply.{answer_by, Ran, Explained}
-use Rattle.answers.specs.declared.Reply.TheVariants.{Given}
+use Rattle.answers.specs.Reply.{Given}
 use Rattle.part_format.specs.PartState.{ValidBytes}
 use Rattle.part_host.specs.Part.{Part, part_of, bytes_kept}
 use Rattle.part_host.specs.Host.{parts_to, end_part_of}

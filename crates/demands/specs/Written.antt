@@ -7,7 +7,7 @@ use Rattle.answers.specs.ResultLine.{result_text}
 use Rattle.answers.specs.Running.{program_writes}
 use Rattle.answers.specs.Code.{refusals_from, RunCall}
 use Rattle.answers.specs.Reply.{Ran}
-use Rattle.answers.specs.declared.Reply.TheVariants.{Given}
+use Rattle.answers.specs.Reply.{Given}
 
 -- The result of an accepted text stands at the front of `out`.
 pub record Wrote (text : List ℕ) (x : Instance) (out : List ℕ) : Type 0 where

@@ -1,4 +1,4 @@
--- Laws of big-endian numbers: one byte more, the bytes of two and of four written out, the number of four bytes, how large a number so many bytes hold, and
+-- Laws of big-endian numbers: one byte more, the bytes of four written out, the number of four bytes, how large a number so many bytes hold, and
 -- that a number comes back from its bytes. Assumes nothing.
 use mathlib.Core.List.{List, [], ◌∷◌, ◌++◌, append-nil}
 use mathlib.Core.Path.{◌≡◌, refl, sym, ap, ◌∙◌}
@@ -43,10 +43,6 @@ pub bytes_of_number : (width v : ℕ) → Bytes (bytes_of width v)
 unfolding bytes_of
 bytes_of_number zero v = λ i. omega arith
 bytes_of_number (suc width) v = below_snoc 256 (bytes_of width (v / 256)) (v % 256) (bytes_of_number width (v / 256)) (omega arith)
-
-pub bytes_two : (v : ℕ) → bytes_of 2 v ≡ v / 256 % 256 ∷ v % 256 ∷ []
-unfolding bytes_of
-bytes_two v = refl
 
 pub bytes_four : (v : ℕ) → bytes_of 4 v ≡ v / 16777216 % 256 ∷ v / 65536 % 256 ∷ v / 256 % 256 ∷ v % 256 ∷ []
 unfolding bytes_of

@@ -6,7 +6,7 @@ use Prim.Native.Nat.{ℕ, zero, suc, ◌+◌, ◌-◌, ◌*◌, ◌/◌, ◌%◌
 use native.Mathlib.Nat.{div-eq_of_lt}
 use native.Mathlib.Numerals.{add-one, one-add}
 use native.Mathlib.Omega.{arith}
-use lib.Bits.{bit_and, and_step, and_self, and_le_l}
+use lib.Bits.{bit_and, and_step, and_self}
 use lib.Count.{count_trailing_zeros, under}
 use lib.Dec.{eqb}
 use lib.ListN.{length, get_or, set, length-set}
@@ -16,21 +16,23 @@ use Rattle.general.specs.Bits.{member, filled}
 use Rattle.general.proofs.Tests.{by_equal}
 use Rattle.general.proofs.Indexed.{length-map_from, get_d_map_from, map_from_at}
 
-pub length-filled : (members x : ℕ) (l : List ℕ) → length (filled members x l) ≡ length l
+pub length-filled : {A : Type 0} (members : ℕ) (x : A) (l : List A) → length (filled members x l) ≡ length l
 unfolding filled
 length-filled members x l = length-map_from _ 1 l
 
 -- What stands at the place of process p.
-pub filled_at : (members x : ℕ) (l : List ℕ) (p : ℕ) → 1 ≤ p → p ≤ length l → get_or (filled members x l) (p - 1) 0 ≡ cond (member p members) x (get_or l (p - 1) 0)
+pub filled_at : {A : Type 0} (members : ℕ) (x : A) (l : List A) (p : ℕ) (d : A) → 1 ≤ p → p ≤ length l
+    → get_or (filled members x l) (p - 1) d ≡ cond (member p members) x (get_or l (p - 1) d)
 unfolding filled
-filled_at members x l p h g = map_from_at _ l p 0 0 h g
+filled_at members x l p d h g = map_from_at _ l p d d h g
 
 -- The same by the digit of a place.
-filled_digit : (members x : ℕ) (l : List ℕ) (k : ℕ) → k < length l → get_or (filled members x l) k 0 ≡ cond (eqb (members / 2 ^ k % 2) 1) x (get_or l k 0)
+filled_digit : {A : Type 0} (members : ℕ) (x : A) (l : List A) (k : ℕ) → k < length l
+    → get_or (filled members x l) k x ≡ cond (eqb (members / 2 ^ k % 2) 1) x (get_or l k x)
 unfolding filled member
 filled_digit members x l k h =
     let place : 1 + k - 1 ≡ k = omega arith in
-    get_d_map_from _ 1 l k 0 0 h ∙ ap (λ (j : ℕ). cond (eqb (members / 2 ^ j % 2) 1) x (get_or l k 0)) place
+    get_d_map_from _ 1 l k x x h ∙ ap (λ (j : ℕ). cond (eqb (members / 2 ^ j % 2) 1) x (get_or l k x)) place
 
 -- Digit t is the lowest 1 of n's d digits, and `rest` is n without it.
 record Lowest (d n rest t : ℕ) : Type 0 where
@@ -86,42 +88,30 @@ lowest (suc d) n h g = by_lowest (n % 2) refl (omega arith) (λ even. lowest d (
     by_lowest (suc (suc x)) e less half = absurd (let z : ⊥ = omega arith in z)
 
 -- x goes to the place of the lowest member, which leaves the set.
-module _ (n rest t x : ℕ) (l : List ℕ) where
+module _ {A : Type 0} (n rest t : ℕ) (x : A) (l : List A) where
   abbrev Same : ℕ → Type 0
-  Same k = cond (eqb (rest / 2 ^ k % 2) 1) x (get_or (set l t x) k 0) ≡ cond (eqb (n / 2 ^ k % 2) 1) x (get_or l k 0)
+  Same k = cond (eqb (rest / 2 ^ k % 2) 1) x (get_or (set l t x) k x) ≡ cond (eqb (n / 2 ^ k % 2) 1) x (get_or l k x)
 
   fill_lowest : (d : ℕ) → Lowest d n rest t → filled rest x (set l t x) ≡ filled n x l
   fill_lowest d found =
-      ext_get_or 0 _ _ (length-filled rest x (set l t x) ∙ length-set l t x ∙ sym (length-filled n x l))
+      ext_get_or x _ _ (length-filled rest x (set l t x) ∙ length-set l t x ∙ sym (length-filled n x l))
       λ k g.
       let more : k < length (set l t x) = omega (arith, length-filled rest x (set l t x)) in
       let within : k < length l = omega (arith, length-set l t x) in
       filled_digit rest x (set l t x) k more ∙ by_equal k t (at_lowest k within) (elsewhere k) ∙ sym (filled_digit n x l k within)
     where
       at_lowest : (k : ℕ) → k < length l → k ≡ t → Same k
-      at_lowest k h e = let inside : t < length l = omega arith in rw (e, found.gone, found.own, get_or-set_same l t x 0 inside)
+      at_lowest k h e = let inside : t < length l = omega arith in rw (e, found.gone, found.own, get_or-set_same l t x x inside)
 
       elsewhere : (k : ℕ) → (k ≡ t → ⊥) → Same k
-      elsewhere k ne = rw (found.others k ne, get_or-set_other l t k x 0 ne)
+      elsewhere k ne = rw (found.others k ne, get_or-set_other l t k x x ne)
 
--- A list on its way: with the members that are left it will be the one at entry with all members.
-pub record Underway (members x : ℕ) (before now : List ℕ) (left : ℕ) : Type 0 where
-  pub comes : filled left x now ≡ filled members x before
-  pub word : left < 2 ^ 64
-
-module _ (members x : ℕ) (before now : List ℕ) (left : ℕ) (way : Underway members x before now left) where
-  -- One turn of the loop.
-  pub one_filled : 0 < left → Underway members x before (set now (count_trailing_zeros 64 left) x) (bit_and left (left - 1))
-  one_filled some =
-      let found = lowest 64 left some way.word in
-      record {
-        comes = fill_lowest left (bit_and left (left - 1)) (count_trailing_zeros 64 left) x now 64 found ∙ way.comes;
-        word = omega (arith, and_le_l left (left - 1));
-      }
+module _ {A : Type 0} (x : A) (now : List A) where
+  -- One turn of the loop: the lowest member's place filled, the others are left.
+  pub one_filled : (left : ℕ) → 0 < left → left < 2 ^ 64
+      → filled (bit_and left (left - 1)) x (set now (count_trailing_zeros 64 left) x) ≡ filled left x now
+  one_filled left some word = fill_lowest left (bit_and left (left - 1)) (count_trailing_zeros 64 left) x now 64 (lowest 64 left some word)
 
   -- When no member is left, the list is as it is.
-  pub all_filled : left ≡ 0 → now ≡ filled members x before
-  all_filled e = ext_get_or 0 _ _ (sym (length-filled left x now)) none_left ∙ way.comes
-    where
-      none_left : (k : ℕ) → k < length now → get_or now k 0 ≡ get_or (filled left x now) k 0
-      none_left k h = sym (filled_digit left x now k h ∙ rw (e, div-eq_of_lt (pow_pos k)))
+  pub none_filled : filled 0 x now ≡ now
+  none_filled = ext_get_or x _ _ (length-filled 0 x now) λ k h. filled_digit 0 x now k (omega (arith, length-filled 0 x now)) ∙ rw (div-eq_of_lt (pow_pos k))

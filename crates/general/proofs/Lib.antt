@@ -3,6 +3,7 @@ pub mod Tests
 pub mod Lists
 pub mod Bytes
 pub mod BigEndian
+pub mod BigEndianStd
 pub mod Bits
 pub mod Indexed
 pub mod Search

@@ -25,5 +25,5 @@ set_of zero test = 0
 set_of (suc n) test = cond (test (suc n)) 1 0 * 2 ^ n + set_of n test
 
 -- For the code alone: a list with x at the place of each member of a set; process p stands at place p - 1.
-unfoldable pub filled : (set x : ℕ) → List ℕ → List ℕ
+unfoldable pub filled : {A : Type 0} → (set : ℕ) → (x : A) → List A → List A
 filled set x l = map_from (λ p y. cond (member p set) x y) 1 l

@@ -7,9 +7,12 @@ use native.Mathlib.Omega.{arith}
 use lib.Dec.{eqb}
 use borrow.Author.Tests.{eq-eqb, ne_eqb, eqb-true, eqb-false}
 use Rattle.coordinator.specs.Message.{Messages, nothing}
-use Rattle.consensus.specs.Instance.{Instance, Fault}
+use Rattle.consensus.specs.Instance.{Instance}
+use Rattle.consensus.specs.declared.Fault.{Fault}
 use Rattle.coordinator.specs.Transition.{Outcome, continues, decides, sends, receives}
-use Rattle.consensus.specs.State.{State, undecided, decided, crashed, state_of, crashes_in}
+use Rattle.consensus.specs.State.{state_of, crashes_in}
+use Rattle.consensus.specs.declared.State.{State}
+use Rattle.consensus.specs.declared.State.TheVariants.{Undecided as undecided, Decided as decided, Crashed as crashed}
 use Rattle.coordinator.specs.Round.{sent_by, after_outcome, after}
 use Rattle.coordinator.specs.Run.{run_to}
 use Rattle.coordinator.specs.WellFormed.{WellFormed}

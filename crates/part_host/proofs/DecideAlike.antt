@@ -8,7 +8,9 @@ use native.Mathlib.Omega.{arith}
 use lib.ListN.{length}
 use Rattle.consensus.specs.Instance.{Instance, fault_of, proposal_of}
 use Rattle.coordinator.specs.Delivery.{reach}
-use Rattle.consensus.specs.State.{State, undecided, decided, crashed, state_of}
+use Rattle.consensus.specs.State.{state_of}
+use Rattle.consensus.specs.declared.State.{State}
+use Rattle.consensus.specs.declared.State.TheVariants.{Undecided as undecided, Decided as decided, Crashed as crashed}
 use Rattle.coordinator.specs.Round.{sent_by, received}
 use Rattle.coordinator.specs.Run.{run_to, run_of, end_of}
 use Rattle.coordinator.specs.WellFormed.{WellFormed}

@@ -11,7 +11,8 @@ use Rattle.consensus.specs.Instance.{within_limits, fault_of}
 use Rattle.coordinator.specs.Message.{arriving, gets_data, gets_commit}
 use Rattle.coordinator.specs.Transition.{sends, receives}
 use Rattle.coordinator.specs.Delivery.{among_first, reach_at, reach_in, reach}
-use Rattle.consensus.specs.State.{decided, crashed, crashes_in, state_of}
+use Rattle.consensus.specs.State.{crashes_in, state_of}
+use Rattle.consensus.specs.declared.State.TheVariants.{Decided as decided, Crashed as crashed}
 use Rattle.coordinator.specs.Round.{sent_by, received, after_outcome, after, states_after}
 use Rattle.coordinator.specs.Undecided.{is_undecided, any_undecided}
 use Rattle.coordinator.specs.Count.{speaks, carries, carried_in, data_in, commits_in}

@@ -5,7 +5,8 @@ use mathlib.Core.Path.{◌≡◌, refl, sym, ap, ◌∙◌}
 use Prim.Native.Nat.{ℕ, suc, ◌≤◌, ◌<◌}
 use native.Mathlib.Omega.{arith}
 use Rattle.consensus.specs.Instance.{Instance}
-use Rattle.consensus.specs.State.{State, undecided, decided, crashed}
+use Rattle.consensus.specs.declared.State.{State}
+use Rattle.consensus.specs.declared.State.TheVariants.{Undecided as undecided, Decided as decided, Crashed as crashed}
 use Rattle.consensus.specs.Consensus.{IsProcess}
 use Rattle.coordinator.specs.Run.{last_round, end_of}
 use Rattle.coordinator.specs.WellFormed.{WellFormed}

@@ -1,7 +1,9 @@
 -- Demand 2, second half (document 00): separate parts, fed the frames that the failure pattern lets through, decide as the processes of the run do.
 use Rattle.std.specs.Prelude.{List, ◌≡◌, true, ℕ, suc, ◌≤◌}
 use Rattle.consensus.specs.Instance.{Instance}
-use Rattle.consensus.specs.State.{State, undecided, decided, crashed, state_of}
+use Rattle.consensus.specs.State.{state_of}
+use Rattle.consensus.specs.declared.State.{State}
+use Rattle.consensus.specs.declared.State.TheVariants.{Undecided as undecided, Decided as decided, Crashed as crashed}
 use Rattle.coordinator.specs.Run.{run_to, end_of}
 use Rattle.consensus.specs.Consensus.{IsProcess}
 use Rattle.part_format.specs.PartState.{PartState, state_bytes, mark_open, mark_decided}

@@ -1,6 +1,6 @@
 -- Case 1 of document 01 ('Worked runs') by separate parts; and by it the premises of the claims on parts can be met.
 use Rattle.std.specs.Prelude.{List, [], ◌∷◌, ◌≡◌, ℕ, take}
-use Rattle.consensus.specs.State.{decided, crashed}
+use Rattle.consensus.specs.declared.State.TheVariants.{Decided as decided, Crashed as crashed}
 use Rattle.consensus.specs.Consensus.{IsProcess}
 use Rattle.consensus.specs.FourProcesses.{after_one_commit}
 use Rattle.part_format.specs.Speak.{speak_output}

@@ -2,7 +2,8 @@
 -- 'The desk part').
 use Rattle.std.specs.Prelude.{List, ℕ, zero, suc, cond, ◌&&◌, replicate}
 use Rattle.general.specs.Indexed.{map_from}
-use Rattle.consensus.specs.Instance.{Instance, Fault, fault_of}
+use Rattle.consensus.specs.Instance.{Instance, fault_of}
+use Rattle.consensus.specs.declared.Fault.{Fault}
 use Rattle.consensus.specs.State.{crashes_in}
 use Rattle.part_format.specs.Start.{start_bytes}
 use Rattle.part_format.specs.Close.{close_state}

@@ -2,7 +2,8 @@
 -- consensus/specs/Consensus.
 use Rattle.std.specs.Prelude.{map, ℕ, suc, cond, eqb}
 use Rattle.consensus.specs.Instance.{Instance}
-use Rattle.consensus.specs.State.{State, undecided, decided, crashed}
+use Rattle.consensus.specs.declared.State.{State}
+use Rattle.consensus.specs.declared.State.TheVariants.{Undecided as undecided, Decided as decided, Crashed as crashed}
 use Rattle.consensus.specs.CrashCount.{crash_count}
 use Rattle.part_format.specs.PartState.{state_from, mark_decided}
 use Rattle.part_host.specs.Part.{Part, up, crashed_in}

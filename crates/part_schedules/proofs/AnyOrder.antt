@@ -8,8 +8,10 @@ use native.Mathlib.Numerals.{unary_clauses}
 use native.Mathlib.Omega.{arith}
 use lib.ListN.{length}
 use Rattle.general.proofs.Tests.{both}
-use Rattle.consensus.specs.Instance.{Instance, Fault, fault_of}
-use Rattle.consensus.specs.State.{State, crashes_in}
+use Rattle.consensus.specs.Instance.{Instance, fault_of}
+use Rattle.consensus.specs.declared.Fault.{Fault}
+use Rattle.consensus.specs.State.{crashes_in}
+use Rattle.consensus.specs.declared.State.{State}
 use Rattle.consensus.specs.Consensus.{IsProcess, UniformConsensus, NoLater}
 use Rattle.coordinator_laws.specs.Pairing.{Paired}
 use Rattle.coordinator.specs.Run.{run_of, end_of}

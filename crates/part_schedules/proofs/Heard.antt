@@ -8,7 +8,10 @@ use lib.Dec.{ltb}
 use lib.ListN.{take}
 use lib.Seq.{take-nil}
 use Rattle.general.proofs.Tests.{by_equal}
-use Rattle.consensus.specs.Instance.{Instance, Fault, correct, crashes, before_sending, during_data, during_commits, fault_of}
+use Rattle.consensus.specs.Instance.{Instance, fault_of}
+use Rattle.consensus.specs.declared.Fault.{Fault}
+use Rattle.consensus.specs.declared.Fault.TheVariants.{Correct as correct, Crashes as crashes}
+use Rattle.consensus.specs.declared.CrashPoint.TheVariants.{BeforeSending as before_sending, DuringData as during_data, DuringCommits as during_commits}
 use Rattle.coordinator.specs.Message.{none}
 use Rattle.coordinator.specs.Delivery.{reach_at, reach_in}
 use Rattle.part_host.specs.Part.{Part, part_of}

@@ -10,7 +10,9 @@ use borrow.Author.Tests.{eqb-false, lt-leb}
 use Rattle.general.proofs.Indexed.{length-map_from, map_from_at}
 use Rattle.general.proofs.Tests.{by_order}
 use Rattle.consensus.specs.Instance.{Instance, fault_of}
-use Rattle.consensus.specs.State.{State, undecided, decided, crashed, state_of}
+use Rattle.consensus.specs.State.{state_of}
+use Rattle.consensus.specs.declared.State.{State}
+use Rattle.consensus.specs.declared.State.TheVariants.{Undecided as undecided, Decided as decided, Crashed as crashed}
 use Rattle.consensus.specs.Consensus.{IsProcess}
 use Rattle.coordinator.specs.Undecided.{is_undecided, any_undecided}
 use Rattle.coordinator.specs.Run.{run_to, run_of}

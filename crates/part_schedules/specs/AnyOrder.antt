@@ -2,7 +2,7 @@
 -- give".
 use Rattle.std.specs.Prelude.{List, [], ◌++◌, map, ◌≡◌, ℕ, suc, ◌≤◌, true, false, length}
 use Rattle.consensus.specs.Instance.{Instance}
-use Rattle.consensus.specs.State.{State}
+use Rattle.consensus.specs.declared.State.{State}
 use Rattle.consensus.specs.CrashCount.{crash_count}
 use Rattle.consensus.specs.Consensus.{IsProcess, UniformConsensus}
 use Rattle.coordinator.specs.Run.{run_of}

@@ -2,7 +2,9 @@
 -- goes dark keeps the bytes with which that round began").
 use Rattle.std.specs.Prelude.{ℕ, suc, ◌-◌}
 use Rattle.consensus.specs.Instance.{Instance}
-use Rattle.consensus.specs.State.{State, undecided, decided, crashed, state_of}
+use Rattle.consensus.specs.State.{state_of}
+use Rattle.consensus.specs.declared.State.{State}
+use Rattle.consensus.specs.declared.State.TheVariants.{Undecided as undecided, Decided as decided, Crashed as crashed}
 use Rattle.coordinator.specs.Run.{run_to, end_of}
 use Rattle.part_format.specs.PartState.{mark_open, mark_decided, mark_over}
 use Rattle.part_host.specs.Part.{Part, up, crashed_in}

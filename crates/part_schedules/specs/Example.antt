@@ -1,7 +1,9 @@
 -- Case 1 of document 01 ('Worked runs') in two orders, others in one of them, and case 1 beside case 5 with the calls of both mixed; by them the premises of the
 -- claims on schedules can be met (document 02, Paper 14).
 use Rattle.std.specs.Prelude.{List, [], ◌∷◌, ◌++◌, map, ◌≡◌, ℕ, true, false, cond, eqb, take, drop, replicate}
-use Rattle.consensus.specs.Instance.{Instance, correct, crashes, before_sending, during_data, during_commits}
+use Rattle.consensus.specs.Instance.{Instance}
+use Rattle.consensus.specs.declared.Fault.TheVariants.{Correct as correct, Crashes as crashes}
+use Rattle.consensus.specs.declared.CrashPoint.TheVariants.{BeforeSending as before_sending, DuringData as during_data, DuringCommits as during_commits}
 use Rattle.consensus.specs.FourProcesses.{four, first_crashes, after_one_commit, data_to_the_last, idle_besides}
 use Rattle.part_format.specs.PartState.{ValidBytes}
 use Rattle.part_format.specs.Case.{bytes_in}

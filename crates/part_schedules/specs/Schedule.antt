@@ -1,7 +1,10 @@
 -- Schedules: in which order a host calls the parts of a tender, and which orders Paper 14 allows (document 02, Paper 14: "in each round a desk still up is called
 -- once to speak and, unless it goes dark then, once to close .. within each round all speaking comes before any closing"). Its word is order.
 use Rattle.std.specs.Prelude.{List, [], ◌∷◌, ◌++◌, map, ◌≡◌, ℕ, suc, ◌≤◌, Bool, true, false, cond, not, ◌&&◌, eqb}
-use Rattle.consensus.specs.Instance.{Instance, Fault, correct, crashes, before_sending, during_data, during_commits, fault_of}
+use Rattle.consensus.specs.Instance.{Instance, fault_of}
+use Rattle.consensus.specs.declared.Fault.{Fault}
+use Rattle.consensus.specs.declared.Fault.TheVariants.{Correct as correct, Crashes as crashes}
+use Rattle.consensus.specs.declared.CrashPoint.TheVariants.{BeforeSending as before_sending, DuringData as during_data, DuringCommits as during_commits}
 use Rattle.consensus.specs.State.{crashes_in}
 use Rattle.consensus.specs.Consensus.{IsProcess}
 use Rattle.part_host.specs.Part.{Part, up, crashed_in, part_of, is_open}

@@ -1,7 +1,8 @@
 -- A tender as its host plays it, call by call (document 02, Paper 14: "Our host now calls desk parts as they come ready"; document 01, 'The desk part').
 use Rattle.std.specs.Prelude.{List, [], ◌∷◌, ◌++◌, ℕ, suc, cond, ◌&&◌, eqb, replicate}
 use Rattle.general.specs.Indexed.{map_from}
-use Rattle.consensus.specs.Instance.{Instance, Fault, proposal_of, fault_of}
+use Rattle.consensus.specs.Instance.{Instance, proposal_of, fault_of}
+use Rattle.consensus.specs.declared.Fault.{Fault}
 use Rattle.consensus.specs.State.{crashes_in}
 use Rattle.part_format.specs.Start.{start_bytes}
 use Rattle.part_format.specs.Speak.{speak_yields}

@@ -11,10 +11,6 @@ use Rattle.pricing.specs.Quote.{most_lines, highest_cost, any_above, lines_refus
 
 -- The first cost of some, and the others.
 module _ (limit cost : ℕ) (costs : List ℕ) where
-  pub first_above : limit < cost → any_above limit (cost ∷ costs) ≡ true
-  unfolding any_above
-  first_above h = rw (lt-ltb limit cost h) refl
-
   pub first_below : cost ≤ limit → any_above limit (cost ∷ costs) ≡ any_above limit costs
   unfolding any_above
   first_below h = rw (le-ltb limit cost h) refl

@@ -5,7 +5,8 @@ use mathlib.Core.Path.{◌≡◌, refl, sym, ap, ◌∙◌}
 use Prim.Native.Nat.{ℕ}
 use native.Mathlib.Omega.{arith}
 use Rattle.consensus.specs.Instance.{Instance}
-use Rattle.consensus.specs.State.{State, undecided, decided, crashed}
+use Rattle.consensus.specs.declared.State.{State}
+use Rattle.consensus.specs.declared.State.TheVariants.{Undecided as undecided, Decided as decided, Crashed as crashed}
 use Rattle.consensus.specs.Consensus.{Decides, Agreement, Validity, Termination}
 use Rattle.pricing.specs.Price.{price_of}
 use Rattle.pricing.specs.Quote.{quote_by}

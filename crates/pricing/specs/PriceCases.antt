@@ -1,7 +1,7 @@
 -- Prices by hand (document 02, Paper 9): the rates of a value, both sides of each half penny, lines and sums of lines, and which lines are priced.
 use Rattle.std.specs.Prelude.{List, [], ◌∷◌, ◌++◌, map, ◌≡◌, ℕ, ◌+◌, replicate}
 use Rattle.std.proofs.Math.Option.{some, none}
-use Rattle.consensus.specs.State.{undecided, decided, crashed}
+use Rattle.consensus.specs.declared.State.TheVariants.{Undecided as undecided, Decided as decided, Crashed as crashed}
 use Rattle.pricing.specs.Price.{overhead_of, markup_of, nearest, line_price, price_of}
 use Rattle.pricing.specs.Quote.{lines_refusal, quote_by}
 

@@ -1,7 +1,8 @@
 -- Which lines are priced, and what a process quotes by how it ends (document 02, Paper 9: "It stands above the agreement and rests only on its results.").
 use Rattle.std.specs.Prelude.{List, [], ◌∷◌, Bool, true, false, cond, ℕ, eqb, ltb, length}
 use Rattle.std.proofs.Math.Option.{Option, some, none}
-use Rattle.consensus.specs.State.{State, undecided, decided, crashed}
+use Rattle.consensus.specs.declared.State.{State}
+use Rattle.consensus.specs.declared.State.TheVariants.{Undecided as undecided, Decided as decided, Crashed as crashed}
 use Rattle.pricing.specs.Price.{price_of}
 
 -- The most tender lines, and the highest direct cost.

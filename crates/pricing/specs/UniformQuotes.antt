@@ -3,7 +3,7 @@
 use Rattle.std.specs.Prelude.{List, ◌≡◌, ℕ}
 use Rattle.std.proofs.Math.Option.{some}
 use Rattle.consensus.specs.Instance.{Instance, proposal_of}
-use Rattle.consensus.specs.State.{State}
+use Rattle.consensus.specs.declared.State.{State}
 use Rattle.consensus.specs.Consensus.{IsProcess, Decides, CrashesUndecided, UniformConsensus}
 use Rattle.pricing.specs.Price.{price_of}
 use Rattle.pricing.specs.Quote.{quote_by}

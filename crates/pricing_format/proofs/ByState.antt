@@ -5,7 +5,7 @@ use mathlib.Core.Path.{◌≡◌, refl}
 use mathlib.Core.Bool.{Bool, true, false, cond}
 use Prim.Native.Nat.{ℕ}
 use lib.Dec.{eqb}
-use Rattle.consensus.specs.State.{undecided, decided}
+use Rattle.consensus.specs.declared.State.TheVariants.{Undecided as undecided, Decided as decided}
 use Rattle.pricing.specs.Price.{price_of}
 use Rattle.pricing.specs.Quote.{quote_by}
 use Rattle.part_format.specs.PartState.{state_from}

@@ -12,9 +12,9 @@ use Rattle.ticket_format.specs.FailureLine.{places_crash, suits_step}
 use Rattle.ticket_format.specs.Says.{is_kind, header_says, after_proposal, proposal_says, failure_line, crash_says, failure_says, line_says}
 use Rattle.ticket_format.specs.declared.Place.{Place}
 use Rattle.ticket_format.specs.declared.Place.TheVariants.{Proposals, Failures, Ended}
-use Rattle.ticket_format.specs.declared.HeaderAnswer.{HeaderAnswer}
-use Rattle.ticket_format.specs.declared.LineAnswer.{LineAnswer}
-use Rattle.ticket_format.specs.declared.LineAnswer.TheVariants.{Proposal, Crash, End, Refused}
+use Rattle.ticket_format.specs.LineAnswer.{HeaderAnswer}
+use Rattle.ticket_format.specs.LineAnswer.{LineAnswer}
+use Rattle.ticket_format.specs.LineAnswer.LineAnswer.{Proposal, Crash, End, Refused}
 
 -- The tests that a refused header fails and passes.
 pub data HeaderWrong (b : List ℕ) : (refusal : ℕ) → Type 0 where

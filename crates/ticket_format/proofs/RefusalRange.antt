@@ -14,8 +14,8 @@ use Rattle.ticket_format.specs.Reading.{proceed, read_from}
 use Rattle.ticket_format.specs.Accept.{Stage, header, body, begin, store, accept}
 use Rattle.ticket_format.specs.declared.Place.{Place}
 use Rattle.ticket_format.specs.declared.Place.TheVariants.{Proposals, Failures, Ended}
-use Rattle.ticket_format.specs.declared.HeaderAnswer.{HeaderAnswer}
-use Rattle.ticket_format.specs.declared.LineAnswer.{LineAnswer}
+use Rattle.ticket_format.specs.LineAnswer.{HeaderAnswer}
+use Rattle.ticket_format.specs.LineAnswer.{LineAnswer}
 use Rattle.ticket_format.proofs.LineCases.{HeaderWrong, no_header, outside_limits, HeaderCase, limits_said, header_refused, header_case, LineCase}
 use Rattle.ticket_format.proofs.LineCases.{LineWrong, no_proposal, other_station, no_failure_or_end, failures_over, misplaced, unsuited, after_end}
 use Rattle.ticket_format.proofs.LineCases.{proposal_said, crash_said, end_said, line_refused, line_case}

@@ -11,8 +11,8 @@ use Rattle.ticket_format.specs.Says.{is_kind, header_says, after_proposal, failu
 use Rattle.ticket_format.specs.Accept.{Stage, body, unproposed, with_proposal, with_crash, begin, store}
 use Rattle.ticket_format.specs.declared.Place.{Place}
 use Rattle.ticket_format.specs.declared.Place.TheVariants.{Proposals, Failures, Ended}
-use Rattle.ticket_format.specs.declared.HeaderAnswer.{HeaderAnswer}
-use Rattle.ticket_format.specs.declared.LineAnswer.{LineAnswer}
+use Rattle.ticket_format.specs.LineAnswer.{HeaderAnswer}
+use Rattle.ticket_format.specs.LineAnswer.{LineAnswer}
 use Rattle.ticket_format.proofs.Passing.{refuse_next}
 use Rattle.ticket_format.proofs.LineCases.{HeaderCase, limits_said, header_refused, header_case, CrashPasses, LineCase}
 use Rattle.ticket_format.proofs.LineCases.{proposal_said, crash_said, end_said, line_refused, line_case}

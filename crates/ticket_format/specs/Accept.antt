@@ -1,15 +1,16 @@
 -- The lines of a ticket in their order: what each adds to the instance that the lines before it describe (document 01, 'The ticket').
 use Rattle.std.specs.Prelude.{List, [], ◌∷◌, ◌++◌, ℕ, ◌-◌, set, replicate}
-use Rattle.consensus.specs.Instance.{Instance, correct}
+use Rattle.consensus.specs.Instance.{Instance}
+use Rattle.consensus.specs.declared.Fault.TheVariants.{Correct as correct}
 use Rattle.ticket_format.specs.LineVerdict.{LineVerdict, next, refuse}
 use Rattle.ticket_format.specs.Says.{header_says, line_says}
 use Rattle.ticket_format.specs.FailureLine.{fault_by}
 use Rattle.ticket_format.specs.declared.FailureLine.{FailureLine}
 use Rattle.ticket_format.specs.declared.Place.{Place}
 use Rattle.ticket_format.specs.declared.Place.TheVariants.{Proposals, Failures, Ended}
-use Rattle.ticket_format.specs.declared.HeaderAnswer.{HeaderAnswer}
-use Rattle.ticket_format.specs.declared.LineAnswer.{LineAnswer}
-use Rattle.ticket_format.specs.declared.LineAnswer.TheVariants.{Proposal, Crash, End, Refused}
+use Rattle.ticket_format.specs.LineAnswer.{HeaderAnswer}
+use Rattle.ticket_format.specs.LineAnswer.{LineAnswer}
+use Rattle.ticket_format.specs.LineAnswer.LineAnswer.{Proposal, Crash, End, Refused}
 
 -- Where in a ticket a line stands: first, or behind the header at a place, with the instance as described so far.
 pub data Stage : Type 0 where

@@ -2,7 +2,10 @@
 use Rattle.std.specs.Prelude.{List, [], ◌∷◌, ◌++◌, ◌≡◌, ℕ}
 use Prim.Native.String.{String}
 use Rattle.general.specs.Bits.{members_to}
-use Rattle.consensus.specs.Instance.{Instance, Fault, correct, crashes, before_sending, during_data, during_commits, fault_of}
+use Rattle.consensus.specs.Instance.{Instance, fault_of}
+use Rattle.consensus.specs.declared.Fault.{Fault}
+use Rattle.consensus.specs.declared.Fault.TheVariants.{Correct as correct, Crashes as crashes}
+use Rattle.consensus.specs.declared.CrashPoint.TheVariants.{BeforeSending as before_sending, DuringData as during_data, DuringCommits as during_commits}
 use Rattle.general.specs.Answer.{Answer, accepted, refused}
 use Rattle.ticket_format.specs.Ticket.{read_ticket}
 use Rattle.text.specs.TextOf.{text_of}

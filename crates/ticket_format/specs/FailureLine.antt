@@ -1,7 +1,9 @@
 -- What a failure line may say (document 01, 'The ticket' and 'Refused calls', refusals 7 and 8). `FailureLine` is the code's struct: process, round,
 -- step, reached and count.
 use Rattle.std.specs.Prelude.{Bool, cond, ◌&&◌, ℕ, suc, ◌-◌, ◌%◌, ◌^◌, eqb, ltb, leb}
-use Rattle.consensus.specs.Instance.{Fault, crashes, point_from}
+use Rattle.consensus.specs.Instance.{point_from}
+use Rattle.consensus.specs.declared.Fault.{Fault}
+use Rattle.consensus.specs.declared.Fault.TheVariants.{Crashes as crashes}
 use Rattle.ticket_format.specs.declared.FailureLine.{FailureLine}
 
 -- What a failure line must hold to escape refusal 7: station in 1 to n and rising, round in 1 to t + 1, step at most 02.

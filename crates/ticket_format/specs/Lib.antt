@@ -1,4 +1,5 @@
 pub mod FailureLine
+pub mod LineAnswer
 pub mod LineVerdict
 pub mod Says
 pub mod Accept

@@ -1,14 +1,14 @@
 -- What a line of a ticket says where it stands, and which refusal a wrong one gets (document 01, 'The ticket' and 'Refused calls', refusals 3 to 8).
--- Besides its own bytes it depends on n, t and the place, and not on what earlier lines proposed. `Place`, `HeaderAnswer` and `LineAnswer` are the code's enums.
+-- Besides its own bytes it depends on n, t and the place, and not on what earlier lines proposed. `Place` is the code's enum.
 use Rattle.std.specs.Prelude.{List, ℕ, suc, Bool, cond, not, ◌&&◌, eqb, leb, length, get_or, take, drop}
 use Rattle.general.specs.BigEndian.{number}
 use Rattle.consensus.specs.Instance.{within_limits}
 use Rattle.ticket_format.specs.declared.FailureLine.{FailureLine}
 use Rattle.ticket_format.specs.declared.Place.{Place}
 use Rattle.ticket_format.specs.declared.Place.TheVariants.{Proposals, Failures, Ended}
-use Rattle.ticket_format.specs.declared.HeaderAnswer.{HeaderAnswer}
-use Rattle.ticket_format.specs.declared.LineAnswer.{LineAnswer}
-use Rattle.ticket_format.specs.declared.LineAnswer.TheVariants.{Proposal, Crash, End, Refused}
+use Rattle.ticket_format.specs.LineAnswer.{HeaderAnswer}
+use Rattle.ticket_format.specs.LineAnswer.{LineAnswer}
+use Rattle.ticket_format.specs.LineAnswer.LineAnswer.{Proposal, Crash, End, Refused}
 use Rattle.ticket_format.specs.FailureLine.{places_crash, suits_step}
 
 -- A line of this kind and of this many bytes.

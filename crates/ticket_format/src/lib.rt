@@ -3,7 +3,7 @@
 #![tactic(auto)]
 
 // The bytes of a failure line behind its kind: station, round, step, set, in which bit j - 1 stands for process j, and count.
-#[derive(Clone, Copy)]
+#[derive(Clone, Copy, Debug, PartialEq, Eq)]
 pub struct FailureLine {
     pub process: u8,
     pub round: u8,
@@ -13,7 +13,7 @@ pub struct FailureLine {
 }
 
 // Where in a ticket a line behind the header stands.
-#[derive(Clone, Copy)]
+#[derive(Clone, Copy, Debug, PartialEq, Eq)]
 pub enum Place {
     // After so many proposal lines.
     Proposals(u8),
@@ -21,23 +21,4 @@ pub enum Place {
     Failures(u8, u8),
     // Past the 04.
     Ended,
-}
-
-// What the header says, n and t, or the number of its refusal.
-#[derive(Clone, Copy)]
-pub enum HeaderAnswer {
-    Limits(u8, u8),
-    Refused(u8),
-}
-
-// What a line behind the header says, or the number of its refusal.
-#[derive(Clone, Copy)]
-pub enum LineAnswer {
-    // After so many proposals this value; and the next place.
-    Proposal(u8, u32, Place),
-    // A crash; with it there are so many.
-    Crash(u8, FailureLine),
-    // The 04.
-    End,
-    Refused(u8),
 }

@@ -11,7 +11,11 @@ use Rattle.general.specs.BigEndian.{bytes_of}
 use Rattle.general.specs.Indexed.{map_from}
 use Rattle.general.proofs.Bytes.{Bytes, bytes_each, bytes_append}
 use Rattle.general.proofs.BigEndian.{bytes_of_number}
-use Rattle.consensus.specs.Instance.{Instance, Fault, correct, crashes, CrashPoint, before_sending, during_data, during_commits}
+use Rattle.consensus.specs.Instance.{Instance}
+use Rattle.consensus.specs.declared.Fault.{Fault}
+use Rattle.consensus.specs.declared.Fault.TheVariants.{Correct as correct, Crashes as crashes}
+use Rattle.consensus.specs.declared.CrashPoint.{CrashPoint}
+use Rattle.consensus.specs.declared.CrashPoint.TheVariants.{BeforeSending as before_sending, DuringData as during_data, DuringCommits as during_commits}
 use Rattle.consensus.specs.WellFormed.{FaultAllowedBy, fault_count}
 use Rattle.coordinator.specs.WellFormed.{PointAllowed, FaultAllowed, WellFormed}
 use Rattle.text.specs.Capitals.{capital}

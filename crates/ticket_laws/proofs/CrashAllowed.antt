@@ -7,7 +7,9 @@ use native.Mathlib.Omega.{arith}
 use lib.Dec.{eqb, leb}
 use borrow.Author.Tests.{ltb-true, leb-true, eqb-true}
 use Rattle.general.proofs.Tests.{both}
-use Rattle.consensus.specs.Instance.{crashes, before_sending, during_data, during_commits, point_from}
+use Rattle.consensus.specs.Instance.{point_from}
+use Rattle.consensus.specs.declared.Fault.TheVariants.{Crashes as crashes}
+use Rattle.consensus.specs.declared.CrashPoint.TheVariants.{BeforeSending as before_sending, DuringData as during_data, DuringCommits as during_commits}
 use Rattle.consensus.specs.WellFormed.{FaultAllowedBy}
 use Rattle.coordinator.specs.WellFormed.{PointAllowed, FaultAllowed}
 use Rattle.ticket_format.specs.declared.FailureLine.{FailureLine}

@@ -19,8 +19,8 @@ use Rattle.ticket_format.specs.Says.{is_kind, header_says, after_proposal, failu
 use Rattle.ticket_format.specs.Accept.{Stage, header, body, unproposed, with_proposal, with_crash, begin, store, accept}
 use Rattle.ticket_format.specs.declared.Place.{Place}
 use Rattle.ticket_format.specs.declared.Place.TheVariants.{Proposals, Failures, Ended}
-use Rattle.ticket_format.specs.declared.HeaderAnswer.{HeaderAnswer}
-use Rattle.ticket_format.specs.declared.LineAnswer.{LineAnswer}
+use Rattle.ticket_format.specs.LineAnswer.{HeaderAnswer}
+use Rattle.ticket_format.specs.LineAnswer.{LineAnswer}
 use Rattle.ticket_laws.specs.FirstWrong.{kind_in, station_in, n_in, t_in, last_of, AllowedHere, header_first, proposal_next, failure_next, end_next}
 use Rattle.ticket_laws.specs.FirstWrong.{InPlace, Suited, Applies, not_here, outside, not_next, too_many, not_in_place, not_suited, FirstApplies}
 use Rattle.ticket_format.proofs.LineCases.{HeaderWrong, no_header, outside_limits, HeaderCase, limits_said, header_refused, header_case, CrashPasses}

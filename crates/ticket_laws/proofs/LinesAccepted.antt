@@ -10,7 +10,11 @@ use lib.Pow.{pow_mono}
 use lib.ListN.{length, set}
 use Rattle.general.specs.BigEndian.{number, bytes_of}
 use Rattle.general.proofs.BigEndian.{number_bytes, bytes_four}
-use Rattle.consensus.specs.Instance.{Instance, Fault, crashes, CrashPoint, before_sending, during_data, during_commits, point_from}
+use Rattle.consensus.specs.Instance.{Instance, point_from}
+use Rattle.consensus.specs.declared.Fault.{Fault}
+use Rattle.consensus.specs.declared.Fault.TheVariants.{Crashes as crashes}
+use Rattle.consensus.specs.declared.CrashPoint.{CrashPoint}
+use Rattle.consensus.specs.declared.CrashPoint.TheVariants.{BeforeSending as before_sending, DuringData as during_data, DuringCommits as during_commits}
 use Rattle.consensus.specs.Limits.{Limits}
 use Rattle.consensus.specs.WellFormed.{FaultAllowedBy}
 use Rattle.consensus.proofs.Limits.{limits_pass}

@@ -11,7 +11,8 @@ use lib.Seq.{drop-cons, length-take-le, drop-drop}
 use Rattle.general.specs.BigEndian.{number, bytes_of}
 use Rattle.general.proofs.Bytes.{Bytes, drop-bytes, take-bytes}
 use Rattle.general.proofs.BigEndian.{bytes_number}
-use Rattle.consensus.specs.Instance.{before_sending, during_data, during_commits, point_from}
+use Rattle.consensus.specs.Instance.{point_from}
+use Rattle.consensus.specs.declared.CrashPoint.TheVariants.{BeforeSending as before_sending, DuringData as during_data, DuringCommits as during_commits}
 use Rattle.ticket_format.specs.Says.{is_kind}
 use Rattle.ticket_laws.specs.FirstWrong.{kind_in, step_in, set_in, count_in, Suited}
 use Rattle.ticket_laws.specs.TicketText.{header_line, proposal_line, point_bytes, crash_line, end_line}

@@ -10,7 +10,9 @@ use lib.ListN.{length, get_or, replicate, length-append}
 use lib.Seq.{append_snoc, set_at}
 use Rattle.general.specs.Indexed.{map_from}
 use Rattle.general.proofs.Bytes.{AllBelow}
-use Rattle.consensus.specs.Instance.{Instance, Fault, correct, crashes, fault_of}
+use Rattle.consensus.specs.Instance.{Instance, fault_of}
+use Rattle.consensus.specs.declared.Fault.{Fault}
+use Rattle.consensus.specs.declared.Fault.TheVariants.{Correct as correct, Crashes as crashes}
 use Rattle.consensus.specs.Limits.{Limits}
 use Rattle.consensus.specs.WellFormed.{fault_count}
 use Rattle.coordinator.specs.WellFormed.{FaultAllowed, WellFormed}

@@ -12,7 +12,10 @@ use Rattle.general.specs.Indexed.{map_from}
 use Rattle.general.proofs.Bytes.{Bytes}
 use Rattle.general.proofs.Lists.{get_d_repeated}
 use Rattle.general.proofs.Indexed.{map_from_snoc}
-use Rattle.consensus.specs.Instance.{Instance, Fault, correct, crashes, CrashPoint, point_from}
+use Rattle.consensus.specs.Instance.{Instance, point_from}
+use Rattle.consensus.specs.declared.Fault.{Fault}
+use Rattle.consensus.specs.declared.Fault.TheVariants.{Correct as correct, Crashes as crashes}
+use Rattle.consensus.specs.declared.CrashPoint.{CrashPoint}
 use Rattle.text.specs.Line.{Line, bytes, no_line}
 use Rattle.text.proofs.LineBytes.{Lines}
 use Rattle.ticket_format.specs.LineVerdict.{LineVerdict, next, refuse}
@@ -24,8 +27,8 @@ use Rattle.ticket_laws.specs.FirstWrong.{station_in, step_in}
 use Rattle.ticket_format.specs.Accept.{Stage, header, body, unproposed, with_proposal, with_crash, begin, store, accept}
 use Rattle.ticket_format.specs.declared.Place.{Place}
 use Rattle.ticket_format.specs.declared.Place.TheVariants.{Proposals, Failures, Ended}
-use Rattle.ticket_format.specs.declared.HeaderAnswer.{HeaderAnswer}
-use Rattle.ticket_format.specs.declared.LineAnswer.{LineAnswer}
+use Rattle.ticket_format.specs.LineAnswer.{HeaderAnswer}
+use Rattle.ticket_format.specs.LineAnswer.{LineAnswer}
 use Rattle.ticket_format.specs.Ticket.{at_end}
 use Rattle.ticket_laws.specs.TicketText.{header_line, proposal_line, crash_line, crash_lines, ticket_lines}
 use Rattle.ticket_format.proofs.CrashPlaced.{crash_placed}

@@ -12,7 +12,8 @@ use Rattle.general.specs.BigEndian.{number}
 use Rattle.general.proofs.Tests.{both}
 use Rattle.general.proofs.Bytes.{AllBelow, Bytes, below_snoc, drop-bytes}
 use Rattle.general.proofs.BigEndian.{number_below}
-use Rattle.consensus.specs.Instance.{Instance, correct, fault_of, within_limits}
+use Rattle.consensus.specs.Instance.{Instance, fault_of, within_limits}
+use Rattle.consensus.specs.declared.Fault.TheVariants.{Correct as correct}
 use Rattle.coordinator.specs.WellFormed.{FaultAllowed, WellFormed}
 use Rattle.consensus.specs.WellFormed.{FaultAllowedBy, fault_count}
 use Rattle.text.specs.Line.{lines_of}
@@ -24,8 +25,8 @@ use Rattle.ticket_format.specs.Says.{is_kind, header_says, after_proposal, failu
 use Rattle.ticket_format.specs.Accept.{Stage, header, body, unproposed, with_proposal, with_crash, begin, store, accept}
 use Rattle.ticket_format.specs.declared.Place.{Place}
 use Rattle.ticket_format.specs.declared.Place.TheVariants.{Proposals, Failures, Ended}
-use Rattle.ticket_format.specs.declared.HeaderAnswer.{HeaderAnswer}
-use Rattle.ticket_format.specs.declared.LineAnswer.{LineAnswer}
+use Rattle.ticket_format.specs.LineAnswer.{HeaderAnswer}
+use Rattle.ticket_format.specs.LineAnswer.{LineAnswer}
 use Rattle.ticket_format.specs.Ticket.{ticket_limit, at_end, read_ticket}
 use Rattle.text.proofs.LineBytes.{lines_bytes}
 use Rattle.ticket_format.proofs.LineCases.{HeaderCase, limits_said, header_refused, header_case, CrashPasses, LineCase}
