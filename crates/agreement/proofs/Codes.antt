@@ -2,21 +2,37 @@
 use mathlib.Core.List.{List}
 use mathlib.Core.Path.{◌≡◌, refl, ap, ◌∙◌}
 use Prim.Native.Nat.{ℕ}
+use Rattle.std.specs.Prelude.{Result, Ok, Err}
 use Rattle.general.specs.Answer.{Answer, accepted, refused}
 use Rattle.answers.specs.Code.{code_of, refusal_code, size_code, number_code, WritingCall}
-use Rattle.answers.specs.Reply.{answer_by, size_of, Writing}
-use Rattle.answers.specs.declared.Reply.{Reply}
-use Rattle.answers.specs.declared.Reply.TheVariants.{Given, Refused}
+use Rattle.answers.specs.Reply.{Reply, answer_by, reply_of, size_of, Writing}
+use Rattle.refusals.specs.Number.{number_of}
+use Rattle.refusals.specs.Answered.{answer_of}
+use Rattle.refusals.specs.declared.Refused.{Refused}
+use Rattle.coordinator_reason.specs.Number.{number_of_reason}
+use Rattle.coordinator_reason.specs.declared.Reason.{Reason}
 use Rattle.pricing_format.specs.QuoteCall.{place_after, QuotingCall}
 
-module _ (reply : Reply) where
-  pub given_code : (k : ℕ) → reply ≡ Given k → k ≡ number_code (answer_by reply)
-  unfolding answer_by code_of
-  given_code k e = rw e refl
+module _ (result : Result ℕ Refused) where
+  pub ok_code : (k : ℕ) → result ≡ Ok k → k ≡ number_code (answer_by (reply_of result))
+  unfolding answer_by reply_of code_of
+  ok_code k e = rw e refl
 
-  pub refused_code : (number line code : ℕ) → reply ≡ Refused number line → code ≡ refusal_code number line → code ≡ number_code (answer_by reply)
-  unfolding answer_by code_of
-  refused_code number line code e c = rw e c
+  pub err_code : (e : Refused) (code : ℕ) → result ≡ Err e → code ≡ refusal_code (number_of e.refusal) e.line
+      → code ≡ number_code (answer_by (reply_of result))
+  unfolding answer_by reply_of code_of
+  err_code e code is c = rw is c
+
+-- The same of a reason.
+module _ (result : Result Reason Refused) where
+  pub ok_reason : (r : Reason) → result ≡ Ok r → number_of_reason r ≡ number_code (answer_of number_of_reason result)
+  unfolding answer_of code_of
+  ok_reason r e = rw e refl
+
+  pub err_reason : (e : Refused) (code : ℕ) → result ≡ Err e → code ≡ refusal_code (number_of e.refusal) e.line
+      → code ≡ number_code (answer_of number_of_reason result)
+  unfolding answer_of code_of
+  err_reason e code is c = rw is c
 
 -- Of a call that writes.
 size_code_lem : (a : Answer (List ℕ)) → number_code (size_of a) ≡ size_code a

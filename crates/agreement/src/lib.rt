@@ -1,17 +1,17 @@
 // The module's C interface (include/agreement.h): every call total on every input, its answer a documented number.
 #![tactic(auto)]
 
-ghost use Rattle.std.specs.Prelude.{◌≡◌, length, ◌+◌, ◌*◌};
+ghost use Rattle.std.specs.Prelude.{◌≡◌, length, ◌+◌, ◌*◌, ◌<◌};
 ghost use Rattle.part_format.specs.Start.{start_refusal, start_bytes};
 ghost use Rattle.part_format.specs.Speak.{speak_answer, speak_output};
 ghost use Rattle.part_format.specs.Close.{close_refusal, close_state};
 ghost use Rattle.answers.specs.Settle.{settling};
 ghost use Rattle.answers.specs.Reason.{reason};
-ghost use Rattle.answers.specs.Code.{placed_code, RunCall, ReasonsCall, number_code};
+ghost use Rattle.answers.specs.Code.{placed_code, refusal_code, RunCall, ReasonsCall, number_code};
 ghost use Rattle.pricing_format.specs.QuoteCall.{QuoteCall, PriceCall};
-ghost use Rattle.answers.specs.Reply.{answer_by};
+ghost use Rattle.refusals.specs.Number.{number_of};
 
-use answers::Reply;
+use refusals::{Refusal, Refused};
 
 // From here on an answer of a call that takes a ticket is a refusal.
 const REFUSALS_FROM: u64 = 65536;
@@ -19,21 +19,28 @@ const REFUSALS_FROM: u64 = 65536;
 // From here on it names a place.
 const PLACES_FROM: u64 = 4294967296;
 
-// A refusal as one number: the place of the refused ticket among those of the call (0 where there is one alone), the number and the line.
-fn refusal_code(place: u8, number: u8, line: u16) -> u64
-    ensures { result ≡ placed_code place number line }
+// A refusal as its number, which is a byte.
+fn number(refusal: Refusal) -> u64
+    ensures value { result ≡ number_of refusal }
+    ensures byte { result < 256 }
 {
-    PLACES_FROM * (place as u64) + REFUSALS_FROM * (number as u64) + line as u64
+    u64::from(u8::from(refusal))
 }
 
-// A reply as one number: what is given, or the refusal.
-fn reply_code(reply: Reply) -> u64
-    ensures { result ≡ number_code (answer_by reply) }
+// A refusal and its line as one number, with the place of the refused ticket among those of the call (0 where there is one alone).
+fn refusal_code(place: u8, refused: Refused) -> u64
+    ensures { result ≡ placed_code place (number_of refused.refusal) refused.line }
 {
-    match reply {
-        Reply::Given(number) => number,
-        Reply::Refused(refusal, line) => refusal_code(0, refusal, line),
-    }
+    PLACES_FROM * u64::from(place)
+        + REFUSALS_FROM * number(refused.refusal)
+        + u64::from(refused.line)
+}
+
+// A refusal and its line as one number, of a call that takes one ticket.
+fn own_code(refused: Refused) -> u64
+    ensures { result ≡ refusal_code (number_of refused.refusal) refused.line }
+{
+    refusal_code(0, refused)
 }
 
 // Runs a ticket: the bytes of its result, or 65536 times the refusal plus its line.
@@ -41,8 +48,10 @@ fn reply_code(reply: Reply) -> u64
 pub extern "C" fn uc_run(ticket: &[u8], output: &mut [u8]) -> u64
     ensures { RunCall ticket.now output.old output.new result }
 {
-    let reply = running::run_ticket(ticket, output);
-    reply_code(reply)
+    match running::run_ticket(ticket, output) {
+        Ok(size) => size as u64,
+        Err(refused) => own_code(refused),
+    }
 }
 
 // Names the settling round of a ticket, the lowest that qualifies; or 65536 times the refusal plus its line.
@@ -50,8 +59,10 @@ pub extern "C" fn uc_run(ticket: &[u8], output: &mut [u8]) -> u64
 pub extern "C" fn uc_settle(ticket: &[u8]) -> u64
     ensures { result ≡ number_code (settling ticket.now) }
 {
-    let reply = running::settle(ticket);
-    reply_code(reply)
+    match running::settle(ticket) {
+        Ok(round) => u64::from(round),
+        Err(refused) => own_code(refused),
+    }
 }
 
 // Gives the reason of a process in a round of a ticket's run, 1 to 7; or 65536 times the refusal plus its line.
@@ -59,8 +70,10 @@ pub extern "C" fn uc_settle(ticket: &[u8]) -> u64
 pub extern "C" fn uc_reason(ticket: &[u8], process: u64, round: u64) -> u64
     ensures { result ≡ number_code (reason ticket.now process round) }
 {
-    let reply = reasons::reason_of(ticket, process, round);
-    reply_code(reply)
+    match reasons::reason_of(ticket, process, round) {
+        Ok(reason) => u64::from(u8::from(reason)),
+        Err(refused) => own_code(refused),
+    }
 }
 
 // Writes the reasons of all processes in all rounds of a ticket's run: how many there are, or 65536 times the refusal plus its line.
@@ -68,8 +81,10 @@ pub extern "C" fn uc_reason(ticket: &[u8], process: u64, round: u64) -> u64
 pub extern "C" fn uc_reasons(ticket: &[u8], reasons: &mut [u8]) -> u64
     ensures { ReasonsCall ticket.now reasons.old reasons.new result }
 {
-    let reply = reasons::all_reasons(ticket, reasons);
-    reply_code(reply)
+    match reasons::all_reasons(ticket, reasons) {
+        Ok(count) => count as u64,
+        Err(refused) => own_code(refused),
+    }
 }
 
 // Quotes tender lines for a process of a ticket's run: 0, and the pence in their place; or 65536 times the refusal plus its line.
@@ -77,13 +92,12 @@ pub extern "C" fn uc_reasons(ticket: &[u8], reasons: &mut [u8]) -> u64
 pub extern "C" fn uc_quote(ticket: &[u8], costs: &[u64], process: u64, quote: &mut u64) -> u64
     ensures { QuoteCall ticket.now costs.now process quote.old quote.new result }
 {
-    let reply = quotes::quote_of(ticket, costs, process);
-    match reply {
-        Reply::Given(pence) => {
+    match quotes::quote_of(ticket, costs, process) {
+        Ok(pence) => {
             *quote = pence;
             0
         }
-        Reply::Refused(number, line) => refusal_code(0, number, line),
+        Err(unquoted) => own_code(unquoted),
     }
 }
 
@@ -92,13 +106,12 @@ pub extern "C" fn uc_quote(ticket: &[u8], costs: &[u64], process: u64, quote: &m
 pub extern "C" fn uc_price(state: &[u8], costs: &[u64], quote: &mut u64) -> u64
     ensures { PriceCall state.now costs.now quote.old quote.new result }
 {
-    let reply = part_price::quote_own(state, costs);
-    match reply {
-        Reply::Given(price) => {
+    match part_price::quote_own(state, costs) {
+        Ok(price) => {
             *quote = price;
             0
         }
-        Reply::Refused(number, _) => number as u64,
+        Err(refused) => number(refused.refusal),
     }
 }
 

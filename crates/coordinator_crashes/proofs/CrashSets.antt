@@ -1,80 +1,61 @@
 -- The sets of the processes that have the same crash round, process by process. Assumes nothing.
 use mathlib.Core.List.{List}
 use mathlib.Core.Path.{◌≡◌, refl, sym, ◌∙◌}
-use mathlib.Core.Bool.{Bool, cond}
+use mathlib.Core.Bool.{Bool, true, false, cond}
 use Prim.Native.Nat.{ℕ, zero, suc, ◌+◌, ◌-◌, ◌*◌, ◌^◌, ◌≤◌, ◌<◌}
 use native.Mathlib.Omega.{arith}
 use lib.Bits.{bit_or, or_shifted_r}
-use lib.Dec.{eqb}
-use lib.ListN.{length, get_or, set, length-set}
+use lib.ListN.{length, get_or, set, replicate, get_or-replicate}
 use lib.Seq.{get_or-set_same, get_or-set_other}
 use borrow.Author.Tests.{eq-eqb, ne_eqb}
 use Rattle.general.specs.Bits.{set_of}
 use Rattle.general.proofs.Sets.{set_within}
 use Rattle.general.proofs.Tests.{by_equal}
+use Rattle.consensus.specs.State.{crashes_in}
+use Rattle.consensus.specs.declared.Fault.{Fault}
+use Rattle.consensus.specs.declared.CrashPoint.{CrashPoint}
+use Rattle.consensus.specs.declared.Fault.TheVariants.{Correct as correct, Crashes as crashes}
 use Rattle.coordinator_crashes.specs.code.CrashSets.{CrashSets}
 
--- The processes below p have been put into the sets of their rounds.
-pub record PutBelow (n : ℕ) (rounds sets : List ℕ) (p : ℕ) : Type 0 where
-  pub first : 1 ≤ p
-  pub last : p ≤ n + 1
-  pub places : length sets ≡ 64
-  pub put : CrashSets (p - 1) rounds sets
-
--- Before process 1 every set is empty.
-pub none_put : (n : ℕ) (rounds sets : List ℕ) → length sets ≡ 64 → ((k : ℕ) → k < 64 → get_or sets k 0 ≡ 0) → PutBelow n rounds sets 1
+-- Of no process every set is empty.
+pub none_put : (pattern : List Fault) → CrashSets 0 pattern (replicate 64 0)
 unfolding set_of
-none_put n rounds sets places empty =
-    record { first = omega arith; last = omega arith; places = places; put = λ r h g. empty (r - 1) (omega arith) }
+none_put pattern r h g = get_or-replicate 64 (r - 1) 0 0 (omega arith)
 
 -- The set of one process more, where its test is this.
-one_more_lem : (p : ℕ) (test : ℕ → Bool) → 1 ≤ p → set_of p test ≡ cond (test p) 1 0 * 2 ^ (p - 1) + set_of (p - 1) test
+one_more_lem : (p : ℕ) (test : ℕ → Bool) (b : Bool) → 1 ≤ p → test p ≡ b → set_of p test ≡ cond b 1 0 * 2 ^ (p - 1) + set_of (p - 1) test
 unfolding set_of
-one_more_lem zero test h = absurd (let z : ⊥ = omega arith in z)
-one_more_lem (suc q) test h = let place : suc q - 1 ≡ q = omega arith in rw place
+one_more_lem zero test b h e = absurd (let z : ⊥ = omega arith in z)
+one_more_lem (suc q) test b h e = let place : suc q - 1 ≡ q = omega arith in rw (place, e) refl
 
-module _ (n : ℕ) (rounds sets : List ℕ) (p : ℕ) (so_far : PutBelow n rounds sets p) (more : p ≤ n) where
-  abbrev own : ℕ
-  own = get_or rounds (p - 1) 0
+module _ (pattern : List Fault) (sets : List ℕ) (p : ℕ) (first : 1 ≤ p) (so_far : CrashSets (p - 1) pattern sets) where
+  abbrev crashing : ℕ → ℕ → Bool
+  crashing r q = crashes_in r (get_or pattern (q - 1) correct)
 
-  place : p + 1 - 1 ≡ p
-  place = omega arith
-
-  -- Where its round is not r, the set of round r stays.
-  not_in : (r : ℕ) → (own ≡ r → ⊥) → 1 ≤ r → r ≤ 64 → get_or sets (r - 1) 0 ≡ set_of p (λ q. eqb (get_or rounds (q - 1) 0) r)
-  not_in r ne h g =
-      so_far.put r h g ∙ sym (one_more_lem p _ so_far.first ∙ rw (ne_eqb own r ne) (omega arith))
+  -- Where process p does not crash in round r, the set of round r stays.
+  stays : (r : ℕ) → 1 ≤ r → r ≤ 64 → crashing r p ≡ false → get_or sets (r - 1) 0 ≡ set_of p (crashing r)
+  stays r h g none = so_far r h g ∙ sym (one_more_lem p (crashing r) false first none ∙ omega arith)
 
   -- It crashes in none of rounds 1 to 64.
-  pub not_put : ((0 < own) × (own ≤ 64) → ⊥) → PutBelow n rounds sets (p + 1)
-  not_put none =
-      record {
-        first = omega arith;
-        last = omega arith;
-        places = so_far.places;
-        put = λ r h g. rw place (not_in r (λ same. none (omega arith, omega arith)) h g);
-      }
+  pub correct_stays : get_or pattern (p - 1) correct ≡ correct → CrashSets p pattern sets
+  unfolding crashes_in
+  correct_stays fault r h g = stays r h g (rw fault)
 
-  pub crashing_put : 0 < own → own ≤ 64 → (bit : ℕ) → bit ≡ 2 ^ (p - 1)
-      → PutBelow n rounds (set sets (own - 1) (bit_or (get_or sets (own - 1) 0) bit)) (p + 1)
-  crashing_put some small bit of-p =
-      record {
-        first = omega arith;
-        last = omega arith;
-        places = length-set sets _ _ ∙ so_far.places;
-        put = λ r h g. rw place (by_equal own r (in_own r small) (other r h g));
-      }
-    where
-      in_own : (r : ℕ) → own ≤ 64 → own ≡ r
-          → get_or (set sets (own - 1) (bit_or (get_or sets (own - 1) 0) bit)) (r - 1) 0 ≡ set_of p (λ q. eqb (get_or rounds (q - 1) 0) r)
-      in_own r small e =
-          let inside : own - 1 < length sets = omega (arith, so_far.places) in
-          let shifted : bit ≡ 1 * 2 ^ (p - 1) = omega arith in
-          let members : ℕ → Bool = λ q. eqb (get_or rounds (q - 1) 0) own in
-          rw (← e) (get_or-set_same sets (own - 1) _ 0 inside
-          ∙ rw (so_far.put own (omega arith) small, shifted, or_shifted_r 1 (p - 1) (set_of (p - 1) members) (set_within (p - 1) members))
-          (sym (one_more_lem p members so_far.first ∙ rw (eq-eqb own own refl))))
+  pub other_stays : (own : ℕ) (point : CrashPoint) → get_or pattern (p - 1) correct ≡ crashes own point → (1 ≤ own → own ≤ 64 → ⊥)
+      → CrashSets p pattern sets
+  unfolding crashes_in
+  other_stays own point fault none r h g = stays r h g (rw fault (ne_eqb own r (λ same. none (omega arith) (omega arith))))
 
-      other : (r : ℕ) → 1 ≤ r → r ≤ 64 → (own ≡ r → ⊥)
-          → get_or (set sets (own - 1) (bit_or (get_or sets (own - 1) 0) bit)) (r - 1) 0 ≡ set_of p (λ q. eqb (get_or rounds (q - 1) 0) r)
-      other r h g ne = get_or-set_other sets (own - 1) (r - 1) _ 0 (λ same. ne (omega arith)) ∙ not_in r ne h g
+  -- It crashes in one of them.
+  pub put : (own : ℕ) (point : CrashPoint) → get_or pattern (p - 1) correct ≡ crashes own point → 1 ≤ own → own ≤ 64 → length sets ≡ 64
+      → CrashSets p pattern (set sets (own - 1) (bit_or (get_or sets (own - 1) 0) (2 ^ (p - 1))))
+  unfolding crashes_in
+  put own point fault low high places r h g =
+      by_equal own r
+      (λ same.
+      let inside : own - 1 < length sets = omega (arith, places) in
+      let shifted : 2 ^ (p - 1) ≡ 1 * 2 ^ (p - 1) = omega arith in
+      rw (← same) (get_or-set_same sets (own - 1) _ 0 inside
+      ∙ rw (so_far own low high, shifted, or_shifted_r 1 (p - 1) (set_of (p - 1) (crashing own)) (set_within (p - 1) (crashing own)))
+      (sym (one_more_lem p (crashing own) true first (rw fault (eq-eqb own own refl))))))
+      (λ other. get_or-set_other sets (own - 1) (r - 1) _ 0 (λ same. other (omega arith)) ∙ stays r h g (rw fault (ne_eqb own r other)))

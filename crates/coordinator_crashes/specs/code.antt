@@ -1,2 +1,1 @@
 pub mod CrashSets
-pub mod CrashCountOver

@@ -1,154 +1,103 @@
 // The reason of each process in each round (document 02, Paper 7), read off how the processes of a whole run end: no round is run again.
 #![tactic(auto)]
 
-ghost use Rattle.std.specs.Prelude.{◌≡◌, ◌++◌, ◌-◌, ◌*◌, ◌≤◌, length, drop, get_or};
-ghost use Rattle.coordinator_reason.specs.code.ByEnds.{reason_waiting, reason_ending, reason_by_end, row_by_ends, rows_by_ends};
+ghost use Rattle.std.specs.Prelude.{◌≡◌, ◌++◌, ◌*◌, ◌≤◌, length, drop};
+ghost use Rattle.coordinator_reason.specs.Number.{number_of_reason};
+ghost use Rattle.coordinator_reason.specs.code.ByEnds.{reason_waiting, reason_by_end, reason_in_table, row_by_ends, rows_by_ends};
 
-// The reasons, in document 02's numbers: coordinated and decided; heard value and commit; heard the value only; heard nothing, the coordinator having
-// crashed before this round, or in it; crashed itself; crashed or decided earlier.
-const COORDINATED: u8 = 1;
+use consensus::{CrashPoint, Fault, State};
+use tables::{InstanceTable, RunTable};
 
-const HEARD_COMMIT: u8 = 2;
+// Why a process ends a round as it does, by document 02's numbers.
+#[derive(Clone, Copy, Debug, PartialEq, Eq)]
+pub enum Reason {
+    // It coordinated and decided.
+    Coordinated = 1,
+    // It heard value and commit.
+    HeardCommit = 2,
+    // It heard the value only.
+    HeardValue = 3,
+    // It heard nothing: the coordinator had crashed before this round.
+    CoordinatorCrashedBefore = 4,
+    // It heard nothing: the coordinator crashed in this round.
+    CoordinatorCrashedNow = 5,
+    // It crashed itself.
+    CrashedNow = 6,
+    // It crashed or decided earlier.
+    EndedBefore = 7,
+}
 
-const HEARD_VALUE: u8 = 3;
+impl From<Reason> for u8 {
+    ghost from_gives = { λ reason number. number ≡ number_of_reason reason };
 
-const COORDINATOR_CRASHED_BEFORE: u8 = 4;
+    fn from(reason: Reason) -> u8 {
+        reason as u8
+    }
+}
 
-const COORDINATOR_CRASHED_NOW: u8 = 5;
-
-const CRASHED_NOW: u8 = 6;
-
-const ENDED_BEFORE: u8 = 7;
-
-// The reason in round r of process p, which ends in a later round: the coordinator crashed in round `coordinator_end_round`, with the step and the set of its
-// failure line.
-fn reason_waiting(p: u8, r: u8, coordinator_end_round: u8, step: u8, set: u64) -> u8
+// The reason in round r of process p, which ends in a later round, by how the coordinator ends and by its fault.
+#[tactic(auto, using(crate::proofs::ByEnds::with_commits, crate::proofs::ByEnds::data_alone), unfolding(crate::specs::Number::number_of_reason, crate::specs::code::ByEnds::reason_waiting, crate::specs::code::ByEnds::ended_before, crate::specs::code::ByEnds::data_reaches, coordinator::specs::Delivery::reach_at, coordinator::specs::Message::gets_data))]
+fn reason_waiting(p: u8, r: u8, coordinator: State, fault: Fault) -> Reason
     requires { (1 ≤ p) × (p ≤ 64) }
-    ensures { result ≡ reason_waiting p r coordinator_end_round step set }
+    ensures { number_of_reason result ≡ reason_waiting p r coordinator fault }
 {
-    if coordinator_end_round < r {
-        return COORDINATOR_CRASHED_BEFORE;
+    match (coordinator, fault) {
+        (State::Decided(round, _) | State::Crashed(round), _) if round < r =>
+            Reason::CoordinatorCrashedBefore,
+        (_, Fault::Crashes(_, CrashPoint::BeforeSending)) => Reason::CoordinatorCrashedNow,
+        (_, Fault::Crashes(_, CrashPoint::DuringData(set))) if !sets::is_member(p, set) =>
+            Reason::CoordinatorCrashedNow,
+        _ => Reason::HeardValue,
     }
-    if step == consensus::BEFORE_SENDING {
-        return COORDINATOR_CRASHED_NOW;
-    }
-    if step == consensus::DURING_DATA {
-        if !sets::is_member(p, set) {
-            return COORDINATOR_CRASHED_NOW;
-        }
-    }
-    HEARD_VALUE
 }
 
-// The reason in round r of process p, which ends in this round, with this end.
-fn reason_ending(p: u8, r: u8, end: u8) -> u8
-    ensures { result ≡ reason_ending p r end }
-{
-    if end != tables::DECIDED {
-        return CRASHED_NOW;
-    }
-    if p == r { COORDINATED } else { HEARD_COMMIT }
-}
-
-// The reason of process p in round r, by its end in the whole run and the round of it, `end_round`.
-fn reason(p: u8, r: u8, end: u8, end_round: u8, coordinator_end_round: u8, step: u8, set: u64) -> u8
+// The reason in round r of process p, by how it ends, how the coordinator ends and the coordinator's fault.
+#[tactic(auto, unfolding(crate::specs::Number::number_of_reason, crate::specs::code::ByEnds::reason_by_end, crate::specs::code::ByEnds::reason_beside, crate::specs::code::ByEnds::coordinates))]
+fn reason_by_end(p: u8, r: u8, own: State, coordinator: State, fault: Fault) -> Reason
     requires { (1 ≤ p) × (p ≤ 64) }
-    ensures { result ≡ reason_by_end p r end end_round coordinator_end_round step set }
+    ensures { number_of_reason result ≡ reason_by_end p r own coordinator fault }
 {
-    if end_round < r {
-        return ENDED_BEFORE;
+    match own {
+        State::Decided(round, _) | State::Crashed(round) if round < r => Reason::EndedBefore,
+        State::Decided(round, _) if round == r && p == r => Reason::Coordinated,
+        State::Decided(round, _) if round == r => Reason::HeardCommit,
+        State::Crashed(round) if round == r => Reason::CrashedNow,
+        _ => reason_waiting(p, r, coordinator, fault),
     }
-    if r < end_round {
-        return reason_waiting(p, r, coordinator_end_round, step, set);
-    }
-    reason_ending(p, r, end)
 }
 
-// The reason of process p in round r, by the arrays of a whole run and of the failure lines.
-pub fn reason_at<'a>(
-    p: u8,
-    r: u8,
-    ends: &'a [u8; 64],
-    end_rounds: &'a [u8; 64],
-    steps: &'a [u8; 64],
-    reached: &'a [u64; 64],
-) -> u8
+// The reason of process p in round r of a whole run.
+#[tactic(auto, unfolding(crate::specs::code::ByEnds::reason_in_table))]
+pub fn reason_at(p: u8, r: u8, table: &InstanceTable, run: &RunTable) -> Reason
     requires { (1 ≤ p) × (p ≤ 64) × (1 ≤ r) × (r ≤ 64) }
-    ensures { result ≡ reason_by_end p r (get_or ends.now (p - 1) 0) (get_or end_rounds.now (p - 1) 0)
-        (get_or end_rounds.now (r - 1) 0) (get_or steps.now (r - 1) 0) (get_or reached.now (r - 1) 0) }
+    ensures { number_of_reason result ≡ reason_in_table table.now run.now p r }
 {
-    let i = (p - 1) as usize;
-    let j = (r - 1) as usize;
-    reason(
+    reason_by_end(
         p,
         r,
-        ends[i],
-        end_rounds[i],
-        end_rounds[j],
-        steps[j],
-        reached[j],
+        run.state(p),
+        run.state(r),
+        table.pattern[(r - 1) as usize],
     )
 }
 
-// The reasons of the first n processes in round r, at the front of a part of the output.
-fn put_row<'a>(
-    out: &mut [u8],
-    n: usize,
-    r: u8,
-    ends: &'a [u8; 64],
-    end_rounds: &'a [u8; 64],
-    coordinator_end_round: u8,
-    step: u8,
-    set: u64,
-)
-    requires { (n ≤ 64) × (n ≤ length out.old) }
-    ensures { out.new
-        ≡ row_by_ends n r ends.now end_rounds.now coordinator_end_round step set ++ drop n out.old }
+// The reasons of the run's processes in round r, at the front of a part of the output.
+fn put_row(out: &mut [u8], r: u8, table: &InstanceTable, run: &RunTable)
+    requires { (1 ≤ r) × (r ≤ 64) × (run.now.n ≤ 64) × (run.now.n ≤ length out.old) }
+    ensures { out.new ≡ row_by_ends table.now run.now r ++ drop run.now.n out.old }
 {
-    let mut i = 0;
-    while i < n {
-        let p = (i + 1) as u8;
-        out[i] = reason(
-            p,
-            r,
-            ends[i],
-            end_rounds[i],
-            coordinator_end_round,
-            step,
-            set,
-        );
-        i += 1;
+    for p in 1..=run.n {
+        out[(p - 1) as usize] = u8::from(reason_at(p, r, table, run));
     }
 }
 
-// The reasons of n processes in rounds 1 to `rounds`, one round after the other, at the front of the output.
-pub fn put_reasons<'a>(
-    out: &mut [u8],
-    n: usize,
-    rounds: usize,
-    ends: &'a [u8; 64],
-    end_rounds: &'a [u8; 64],
-    steps: &'a [u8; 64],
-    reached: &'a [u64; 64],
-)
-    requires { (n ≤ 64) × (rounds ≤ 64) × (rounds * n ≤ length out.old) }
-    ensures { out.new
-        ≡ rows_by_ends n ends.now end_rounds.now steps.now reached.now rounds
-        ++ drop (rounds * n) out.old }
+// The reasons of the run's processes in its rounds, one round after the other, at the front of the output.
+pub fn put_reasons(out: &mut [u8], table: &InstanceTable, run: &RunTable)
+    requires { (run.now.n ≤ 64) × (run.now.rounds ≤ 64) × (run.now.rounds * run.now.n ≤ length out.old) }
+    ensures { out.new ≡ rows_by_ends table.now run.now run.now.rounds ++ drop (run.now.rounds * run.now.n) out.old }
 {
-    let mut i = 0;
-    while i < rounds {
-        let r = (i + 1) as u8;
-        put_row(
-            &mut out[i * n..],
-            n,
-            r,
-            ends,
-            end_rounds,
-            end_rounds[i],
-            steps[i],
-            reached[i],
-        );
-        i += 1;
+    let n = usize::from(run.n);
+    for i in 0..usize::from(run.rounds) {
+        put_row(&mut out[i * n..], i as u8 + 1, table, run);
     }
 }

@@ -2,13 +2,14 @@
 use mathlib.Core.Path.{◌≡◌, refl, sym, ◌∙◌}
 use mathlib.Core.Bool.{Bool, true, false, cond, not, ◌&&◌, ◌||◌, false≢true}
 use Prim.Native.Nat.{ℕ}
-use native.Mathlib.Omega.{arith}
 use lib.Dec.{eqb}
 use borrow.Author.Tests.{eqb-true}
 use Rattle.coordinator.specs.Message.{Messages, nothing, Reach, none, data_only, all, arriving, gets_data, gets_commit}
-use Rattle.consensus.specs.Instance.{Fault}
+use Rattle.consensus.specs.declared.Fault.{Fault}
 use Rattle.coordinator.specs.Transition.{sends, receives}
-use Rattle.consensus.specs.State.{State, undecided, decided, crashed, crashes_in}
+use Rattle.consensus.specs.State.{crashes_in}
+use Rattle.consensus.specs.declared.State.{State}
+use Rattle.consensus.specs.declared.State.TheVariants.{Undecided as undecided, Decided as decided, Crashed as crashed}
 use Rattle.coordinator.specs.Round.{sent_by, after_outcome, after}
 use Rattle.coordinator.specs.Undecided.{is_undecided}
 use Rattle.coordinator_laws.proofs.Ended.{after_ended}
@@ -67,8 +68,8 @@ module _ (r p w end_round value : ℕ) (own : Fault) where
   become false false false data_only e c one two = rw (e, c)
   become false false false all e c one two = rw (e, c)
   become false true true none e c one two = rw (e, c)
-  become false true true data_only e c one two = absurd (let z : ◌≡◌ {A = ℕ} 0 1 = cc (two refl) in omega arith)
-  become false true true all e c one two = absurd (let z : ◌≡◌ {A = ℕ} 0 1 = cc (two refl) in omega arith)
+  become false true true data_only e c one two = cc (two refl)
+  become false true true all e c one two = cc (two refl)
   become false true false none e c one two = rw (e, c)
   become false true false data_only e c one two = rw (e, c)
   become false true false all e c one two = rw (e, c)

@@ -1,4 +1,3 @@
-pub mod TableLimits
-pub mod AtRound
-pub mod Whole
-pub mod Settling
+pub mod OfTable
+pub mod Rounds
+pub mod Stopping

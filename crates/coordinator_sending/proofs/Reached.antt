@@ -1,83 +1,58 @@
--- What a coordinator sends, one law for each answer of the code over plain numbers: its premises are the tests that lead there. Assumes nothing.
-use mathlib.Core.Path.{◌≡◌, refl, subst, ◌∙◌}
-use mathlib.Core.Bool.{Bool, true, false}
-use Prim.Native.Nat.{ℕ, ◌+◌, ◌-◌, ◌≤◌}
-use lib.Dec.{eqb}
-use borrow.Author.Tests.{ne_eqb}
-use Rattle.general.specs.Bits.{set_of}
-use Rattle.consensus.specs.Instance.{Fault, crashes, CrashPoint, point_from}
+-- What a coordinator sends, as the code finds it: nothing, if it doesn't speak; to all above it; or by the point at which it crashes. Assumes nothing.
+use mathlib.Core.Path.{◌≡◌, refl}
+use mathlib.Core.Bool.{true, false}
+use Prim.Native.Nat.{ℕ, ◌+◌, ◌-◌, ◌^◌, ◌≤◌}
+use Rattle.general.proofs.Sets.{only_set}
+use Rattle.consensus.specs.declared.Fault.{Fault}
+use Rattle.consensus.specs.declared.Fault.TheVariants.{Crashes as crashes}
+use Rattle.consensus.specs.declared.CrashPoint.{CrashPoint}
+use Rattle.consensus.specs.declared.CrashPoint.TheVariants.{BeforeSending as before_sending, DuringData as during_data, DuringCommits as during_commits}
 use Rattle.consensus.specs.State.{crashes_in}
-use Rattle.coordinator.specs.Message.{gets_data, gets_commit}
-use Rattle.coordinator.specs.Delivery.{reach}
 use Rattle.coordinator.specs.WellFormed.{PointAllowed}
 use Rattle.coordinator.specs.SentSets.{above_set, data_set_at, commit_set_at}
 use Rattle.coordinator_laws.proofs.SentSets.{data_to_all, commits_to_all, data_at_crash, commits_at_crash}
-use Rattle.tables.specs.code.InstanceOfTable.{fault_from}
 use Rattle.coordinator_sending.specs.declared.Sent.{Sent}
-use Rattle.coordinator_sending.specs.code.Sending.{SendingAllowed, sending_by}
-use Rattle.coordinator_sending.proofs.Cases.{crash_of_round, any_fault, at_step_0, at_step_1, at_step_2}
+use Rattle.coordinator_sending.specs.code.Sending.{sending_by}
 
-abbrev sent_to : (coordinator reached committed : ℕ) → Sent
-sent_to c d m = record { coordinator = c; reached = d; committed = m }
+-- What it sends to these, by data and by commits.
+abbrev sent_to : (r reached committed : ℕ) → Sent
+sent_to r reached committed = record { coordinator = 2 ^ (r - 1); reached = reached; committed = committed }
 
--- One that does not speak sends nothing; of one that speaks the three sets.
-pub silent : (n r : ℕ) (fault : Fault) (speaks : Bool) → speaks ≡ false → sent_to 0 0 0 ≡ sending_by n r fault speaks
+pub silent : (n r : ℕ) (fault : Fault) → record { coordinator = 0; reached = 0; committed = 0 } ≡ sending_by n r fault false
 unfolding sending_by
-silent n r fault speaks e = rw e
+silent n r fault = refl
 
-pub spoken : (n r : ℕ) (fault : Fault) (speaks : Bool) → speaks ≡ true → (c d m : ℕ) → c ≡ set_of n (λ p. eqb p r)
-    → d ≡ set_of n (λ p. gets_data (reach n fault r p)) → m ≡ set_of n (λ p. gets_commit (reach n fault r p)) → sent_to c d m ≡ sending_by n r fault speaks
-unfolding sending_by
-spoken n r fault speaks e c d m own data-to commits-to = rw (e, own, data-to, commits-to)
+module _ (n r : ℕ) (first : 1 ≤ r) (last : r ≤ n) where
+  -- One that does not crash in its round.
+  pub sent_up : (fault : Fault) → crashes_in r fault ≡ false → sent_to r (above_set n r) (above_set n r) ≡ sending_by n r fault true
+  unfolding sending_by
+  sent_up fault up = rw (only_set n r first last, ← data_to_all n r fault up, ← commits_to_all n r fault up)
 
--- A coordinator whose crash round is another sends to all above it.
-module _ (n r round step set count : ℕ) (other : round ≡ r → ⊥) where
-  up : crashes_in r (fault_from round step set count) ≡ false
-  unfolding crashes_in
-  up = any_fault round step set count (λ (fault : Fault). crashes_in r fault ≡ false) refl (λ point. ne_eqb round r other)
+  -- One that does.
+  sent_at : (point : CrashPoint) → PointAllowed n r r point
+      → sent_to r (data_set_at n r point) (commit_set_at n r point) ≡ sending_by n r (crashes r point) true
+  unfolding sending_by
+  sent_at point allowed = rw (only_set n r first last, data_at_crash n r point allowed, commits_at_crash n r point allowed)
 
-  pub whole_data : above_set n r ≡ set_of n (λ p. gets_data (reach n (fault_from round step set count) r p))
-  whole_data = data_to_all n r _ up
+  pub sent_before : sent_to r 0 0 ≡ sending_by n r (crashes r before_sending) true
+  unfolding data_set_at commit_set_at PointAllowed
+  sent_before = sent_at before_sending tt
 
-  pub whole_commits : above_set n r ≡ set_of n (λ p. gets_commit (reach n (fault_from round step set count) r p))
-  whole_commits = commits_to_all n r _ up
-
--- One that crashes in its round, by the step: the sets of its data and of its commits.
-module _ (n r step set count : ℕ) (allowed : PointAllowed n r r (point_from step set count)) where
-  abbrev SentAs : (reached committed : ℕ) → Type 0
-  SentAs reached committed =
-      (reached ≡ set_of n (λ p. gets_data (reach n (crashes r (point_from step set count)) r p)))
-      × (committed ≡ set_of n (λ p. gets_commit (reach n (crashes r (point_from step set count)) r p)))
-
-  at_point : SentAs (data_set_at n r (point_from step set count)) (commit_set_at n r (point_from step set count))
-  at_point = (data_at_crash n r _ allowed, commits_at_crash n r _ allowed)
-
-  pub nothing_sent : step ≡ 0 → SentAs 0 0
+  pub sent_data : (set : ℕ) → PointAllowed n r r (during_data set) → sent_to r set 0 ≡ sending_by n r (crashes r (during_data set)) true
   unfolding data_set_at commit_set_at
-  nothing_sent s = subst (λ (point : CrashPoint). SentAs (data_set_at n r point) (commit_set_at n r point)) (at_step_0 step set count s) at_point
+  sent_data set allowed = sent_at (during_data set) allowed
 
-  pub data_interrupted : step ≡ 1 → SentAs set 0
+  pub sent_commits : (sent : ℕ) → PointAllowed n r r (during_commits sent)
+      → sent_to r (above_set n r) (above_set n (n - sent)) ≡ sending_by n r (crashes r (during_commits sent)) true
   unfolding data_set_at commit_set_at
-  data_interrupted s = subst (λ (point : CrashPoint). SentAs (data_set_at n r point) (commit_set_at n r point)) (at_step_1 step set count s) at_point
+  sent_commits sent allowed = sent_at (during_commits sent) allowed
 
-  pub commits_interrupted : (step ≡ 0 → ⊥) → (step ≡ 1 → ⊥) → SentAs (above_set n r) (above_set n (n - count))
-  unfolding data_set_at commit_set_at
-  commits_interrupted h g =
-      subst (λ (point : CrashPoint). SentAs (data_set_at n r point) (commit_set_at n r point)) (at_step_2 step set count h g) at_point
+-- So many commits are no more than the processes above it.
+pub count_allowed : (n r sent : ℕ) → PointAllowed n r r (during_commits sent) → r + sent ≤ n
+unfolding PointAllowed
+count_allowed n r sent allowed = allowed.1
 
-  pub count_allowed : (step ≡ 0 → ⊥) → (step ≡ 1 → ⊥) → r + count ≤ n
-  unfolding PointAllowed
-  count_allowed h g = (rw (at_step_2 step set count h g) at allowed).1
+-- For `interrupted`, and for `sending`.
+pub ruleset by_point = (sent_before, sent_data, sent_commits, count_allowed)
 
--- The fault of a crash round that is r is that of a crash in round r.
-module _ (n r round step set count : ℕ) (first : 1 ≤ r) (now : round ≡ r) where
-  its_fault : fault_from round step set count ≡ crashes r (point_from step set count)
-  its_fault = crash_of_round r round step set count first now
-
-  pub interrupted_allowed : SendingAllowed n r (fault_from round step set count)
-      → (1 ≤ r) × (r ≤ n) × (n ≤ 64) × PointAllowed n r r (point_from step set count)
-  interrupted_allowed allowed = (allowed.first, allowed.last, allowed.at_most_64, allowed.point_allowed _ its_fault)
-
-  pub interrupted_sent : (speaks : Bool) → speaks ≡ true → (s : Sent) → s ≡ sending_by n r (crashes r (point_from step set count)) true
-      → s ≡ sending_by n r (fault_from round step set count) speaks
-  interrupted_sent speaks e s sent = sent ∙ rw (e, its_fault)
+pub ruleset by_fault = (silent, sent_up)

@@ -6,7 +6,7 @@ ghost use Rattle.text.specs.Digit.{digit_table};
 
 // The value of each byte as a digit, or the mark of a byte that is none, @ or 64. A row has sixteen entries: 0 to 9 have theirs in the fourth row, A to F in the
 // fifth, written \x0A to \x0F, and a to f in the seventh, written \x0a to \x0f.
-const DIGIT_VALUES: [u8; 256] = *b"\
+static DIGIT_VALUES: [u8; 256] = *b"\
     @@@@@@@@@@@@@@@@\
     @@@@@@@@@@@@@@@@\
     @@@@@@@@@@@@@@@@\
@@ -24,16 +24,10 @@ const DIGIT_VALUES: [u8; 256] = *b"\
     @@@@@@@@@@@@@@@@\
     @@@@@@@@@@@@@@@@";
 
-// The table, to be made once and lent to whatever reads by it: a constant is made anew wherever it stands.
-pub fn digit_table() -> [u8; 256]
-    ensures { result ≡ digit_table }
+// What the table has for a byte: its value as a digit, 0 to 15, or the mark.
+#[inline(always)]
+pub fn digit_value(c: u8) -> u8
+    ensures { result ≡ get_or digit_table c 0 }
 {
-    DIGIT_VALUES
-}
-
-// What a table has for a byte. By the table of digits that is its value, 0 to 15, or the mark.
-pub fn digit_value(values: &[u8; 256], c: u8) -> u8
-    ensures { result ≡ get_or values.now c 0 }
-{
-    values[c as usize]
+    DIGIT_VALUES[usize::from(c)]
 }

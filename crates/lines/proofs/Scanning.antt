@@ -1,17 +1,18 @@
 -- How reading a line's digits goes on, two at a time, and where it stops. Assumes nothing.
 use mathlib.Core.List.{List, [], ◌∷◌, ◌++◌}
 use mathlib.Core.Path.{◌≡◌, refl, ap, ◌∙◌}
-use mathlib.Core.Bool.{Bool, true, false, ◌&&◌}
 use Prim.Native.Nat.{ℕ, suc, ◌+◌, ◌-◌, ◌*◌, ◌/◌, ◌%◌, ◌≤◌, ◌<◌}
 use native.Mathlib.Omega.{arith}
 use lib.Bits.{bit_or, or_shifted}
 use lib.ListN.{length, get_or, drop, length-append}
 use lib.Seq.{drop-cons}
+use Rattle.std.proofs.Common.{Fits, w8}
+use Rattle.std.proofs.Math.Bool.{and-false}
 use Rattle.general.specs.BigEndian.{number, number_from}
 use Rattle.general.proofs.Tests.{by_order}
-use Rattle.text.specs.Digit.{no_digit, digit_value, is_digit}
+use Rattle.text.specs.Digit.{no_digit, digit_value, is_digit, digit_table}
 use Rattle.text.specs.Line.{even, odd, scan, lines_from, lines_of}
-use Rattle.text.proofs.Digit.{value_digit, value_no_digit}
+use Rattle.text.proofs.Digit.{digit_entry, value_digit, value_no_digit, value_most, value_below_mark}
 use Rattle.text.proofs.LineSteps.{lines_digit}
 use Rattle.lines.specs.code.Words.{upper_word, lower_word}
 use Rattle.lines.specs.code.Scanned.{Scanned, Stops}
@@ -66,10 +67,6 @@ module _ (text : List ℕ) (at end head tail : ℕ) (here : Scanned text at end 
       }
 
 -- No two digits stand where the values of two characters add up to the mark or more, nor at the end of the text.
-and_false_right : (a : Bool) → (a && false) ≡ false
-and_false_right true = refl
-and_false_right false = refl
-
 module _ (text : List ℕ) (end : ℕ) where
   abbrev first : ℕ
   first = digit_value (get_or text end 0)
@@ -81,9 +78,35 @@ module _ (text : List ℕ) (end : ℕ) where
   unfolding Stops
   stops_at_mark high low e g marked more =
       by_order first 15
-      (λ digit. rw (value_no_digit (get_or text (end + 1) 0) (omega arith)) (and_false_right (is_digit (get_or text end 0))))
+      (λ digit. rw (value_no_digit (get_or text (end + 1) 0) (omega arith)) (and-false (is_digit (get_or text end 0))))
       (λ none. rw (value_no_digit (get_or text end 0) none) refl)
 
 pub stops_at_end : (text : List ℕ) (end : ℕ) → length text - end ≤ 1 → Stops text end
 unfolding Stops
 stops_at_end text end h more = absurd (omega arith)
+
+-- What is known of two characters by what the table has for them: their values, which the mark or two digits tell apart.
+pub record PairRead (text : List ℕ) (end high low : ℕ) : Type 0 where
+  pub first : high ≡ digit_value (get_or text end 0)
+  pub second : low ≡ digit_value (get_or text (end + 1) 0)
+  pub first_most : high ≤ no_digit
+  pub second_most : low ≤ no_digit
+  pub are_digits : high + low < no_digit → (high ≤ 15) × (low ≤ 15)
+
+pub pair_read : (text : List ℕ) (end high low : ℕ) → ((i : ℕ) → Fits w8 (get_or text i 0)) → high ≡ get_or digit_table (get_or text end 0) 0
+    → low ≡ get_or digit_table (get_or text (end + 1) 0) 0 → PairRead text end high low
+pair_read text end high low bytes e g =
+    let byte = (bytes end).fits in
+    let next_byte = (bytes (end + 1)).fits in
+    let first : high ≡ digit_value (get_or text end 0) = e ∙ digit_entry _ _ refl byte in
+    let second : low ≡ digit_value (get_or text (end + 1) 0) = g ∙ digit_entry _ _ refl next_byte in
+    record {
+      first = first;
+      second = second;
+      first_most = omega (arith, first, value_most _ byte);
+      second_most = omega (arith, second, value_most _ next_byte);
+      are_digits = λ less.
+          let few = value_below_mark (get_or text end 0) byte (omega arith) in
+          let few_too = value_below_mark (get_or text (end + 1) 0) next_byte (omega arith) in
+          (omega arith, omega arith);
+    }

@@ -1,23 +1,16 @@
 // Numbers as four bytes at a place, most significant byte first (document 01, 'The desk part': the value of a state and of a data frame).
 #![tactic(auto)]
 
-ghost use Rattle.std.specs.Prelude.{◌≡◌, [], ◌∷◌, ◌+◌, ◌≤◌, length, take, drop};
+ghost use Rattle.std.specs.Prelude.{◌≡◌, ◌+◌, ◌≤◌, length, take, drop};
 ghost use Rattle.std.proofs.lemmas.List.Edits.{sets};
 ghost use Rattle.general.specs.BigEndian.{number, bytes_of};
-
-// The number that four bytes stand for.
-fn number_of(first: u8, second: u8, third: u8, fourth: u8) -> u32
-    ensures { result ≡ number (first ∷ second ∷ third ∷ fourth ∷ []) }
-{
-    ((first as u32 * 256 + second as u32) * 256 + third as u32) * 256 + fourth as u32
-}
 
 // The number that the four bytes from `at` on stand for.
 pub fn number_at(b: &[u8], at: usize) -> u32
     requires { at + 4 ≤ length b.now }
     ensures { result ≡ number (take 4 (drop at b.now)) }
 {
-    number_of(b[at], b[at + 1], b[at + 2], b[at + 3])
+    u32::from_be_bytes([b[at], b[at + 1], b[at + 2], b[at + 3]])
 }
 
 // Writes a number as four bytes from `at` on.

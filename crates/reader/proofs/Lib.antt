@@ -1,1 +1,1 @@
-pub mod Advanced
+pub mod NextLine

@@ -1,1 +1,1 @@
-pub mod Advance
+pub mod NextLine

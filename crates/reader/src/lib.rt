@@ -1,13 +1,12 @@
 // The line reader (document 01, 'The ticket'): the ticket bytes, lent, and the start of the next line.
-// The work is left to `read_at`, on the bytes and the place.
+// The work is left to a cursor at that place.
 #![tactic(auto)]
 
-ghost use Rattle.std.specs.Prelude.{◌≡◌};
-ghost use Rattle.text.specs.Digit.{digit_table};
+ghost use Rattle.std.specs.Prelude.{◌≡◌, ◌≤◌, ◌↔◌, IsTrue, length, option_map};
 ghost use Rattle.lines.specs.code.Read.{read_at};
-ghost use Rattle.reader.specs.code.Advance.{place_behind, reader_behind, advance_at};
+ghost use Rattle.reader.specs.code.NextLine.{reader_behind};
 
-use lines::{Cursor, LineRead};
+use lines::{Cursor, Line};
 
 // The ticket bytes, and the place at which the next line begins.
 #[derive(Drop)]
@@ -16,61 +15,30 @@ pub struct LineReader<'a> {
     pub at: usize,
 }
 
-// A line, and the place at which the next one begins.
-#[derive(Drop)]
-pub struct Advance {
-    pub line: LineRead,
-    pub at: usize,
-}
-
-// The place behind a line that was read; where there is none, the place stays.
-fn place_behind(line: LineRead, place: usize) -> usize
-    ensures { result ≡ place_behind line place }
-{
-    match line {
-        LineRead::Line { next, .. } => next.at,
-        LineRead::NoLine => place,
+impl<'a> LineReader<'a> {
+    // The reader of a text whose next line begins at a place.
+    pub fn new(text: &'a [u8], at: usize) -> Self
+        ensures text { result.text ≡ text.entry }
+        ensures at { result.at ≡ at }
+    {
+        LineReader { text, at }
     }
-}
 
-// The work: the line of a text at a place, by a table of digit values that is lent.
-fn read_at(values: &[u8; 256], text: &[u8], place: usize) -> LineRead
-    requires { values.now ≡ digit_table }
-    ensures { result ≡ read_at text.now place }
-{
-    let here = Cursor { at: place };
-    here.read(values, text)
-}
+    // Whether the text is over.
+    pub fn is_over(&self) -> bool
+        ensures { IsTrue result ↔ (length self.now.text.now ≤ self.now.at) }
+    {
+        self.text.len() <= self.at
+    }
 
-// The reader of a text whose next line begins at a place.
-pub fn new<'a>(text: &'a [u8], at: usize) -> LineReader<'a>
-    ensures { (result.text ≡ text.entry) × (result.at ≡ at) }
-{
-    LineReader { text, at }
-}
-
-// Reads the line at the reader's place, by a table of digit values that is lent, and moves the reader behind it.
-pub fn next<'s, 'a>(reader: &'s mut LineReader<'a>, values: &[u8; 256]) -> LineRead
-    requires { values.now ≡ digit_table }
-    ensures { (result ≡ read_at reader.old.text.now reader.old.at)
-        × (reader.new ≡ reader_behind reader.old result) }
-{
-    let at = reader.at;
-    let line = read_at(values, reader.text, at);
-    let behind = place_behind(line, at);
-    reader.at = behind;
-    line
-}
-
-// The line of a text at a place, through a reader, and where the reader then stands. Its own parameters are plain.
-pub fn read_line(values: &[u8; 256], text: &[u8], at: usize) -> Advance
-    requires { values.now ≡ digit_table }
-    ensures { result ≡ advance_at text.now at }
-{
-    let mut reader = new(text, at);
-    let line = next(&mut reader, values);
-    Advance {
-        line,
-        at: reader.at,
+    // Reads the line at the reader's place and moves behind it; where no line begins there, the place stays.
+    pub fn next_line(&mut self) -> Option<Line>
+        ensures line { result ≡ option_map (λ read. read.0) (read_at self.old.text.now self.old.at) }
+        ensures behind { self.new ≡ reader_behind self.old (read_at self.old.text.now self.old.at) }
+    {
+        let here = Cursor { at: self.at };
+        let (line, next) = here.read(self.text)?;
+        self.at = next.at;
+        Some(line)
     }
 }

@@ -10,14 +10,14 @@ use lib.ListN.{length, drop}
 use Rattle.general.specs.Answer.{accepted, refused}
 use Rattle.general.proofs.Tests.{both}
 use Rattle.coordinator.specs.Reason.{reason_of, reasons_to, reasons_of}
-use Rattle.tables.specs.declared.InstanceTable.{InstanceTable}
-use Rattle.tables.specs.declared.RunTable.{RunTable}
+use Rattle.tables.specs.declared.instance.InstanceTable.{InstanceTable}
+use Rattle.tables.specs.declared.run.RunTable.{RunTable}
 use Rattle.tables.specs.code.InstanceOfTable.{instance_of}
 use Rattle.answers.specs.Reason.{within_run, reason_in, reasons_size, reasons_within}
 use Rattle.answers.specs.Reply.{Writing}
-use Rattle.answers.specs.declared.Reply.TheVariants.{Given, Refused}
+use Rattle.answers.specs.Reply.{Given}
 use Rattle.answers.proofs.ReasonsLength.{length-reasons}
-use Rattle.answers.proofs.Replies.{writing_refused, writing_given}
+use Rattle.answers.proofs.Replies.{writing_given}
 use Rattle.coordinator_reason.specs.code.ByEnds.{rows_by_ends}
 use Rattle.run_ends.specs.code.Finished.{Finished}
 use Rattle.reasons.proofs.OfRun.{rounds_known, rows_of_run}
@@ -44,31 +44,30 @@ module _ (table : InstanceTable) (run : RunTable) (done : Finished table run) wh
     unfolding reason_in
     reason_unknown e = rw (sym test_is ∙ e) refl
 
-    pub reason_given_lem : Test ≡ true → (k : ℕ) → k ≡ reason_of (instance_of table) p r → accepted k ≡ reason_in p r (instance_of table)
+    pub reason_given : Test ≡ true → (k : ℕ) → k ≡ reason_of (instance_of table) p r → accepted k ≡ reason_in p r (instance_of table)
     unfolding reason_in
-    reason_given_lem e k given = rw (sym test_is ∙ e, given) refl
+    reason_given e k given = rw (sym test_is ∙ e, given) refl
 
   -- Of all of them, in a buffer.
-  module _ (before : List ℕ) where
-    size_is : run.rounds * table.n ≡ reasons_size (instance_of table)
+  module _ (before : List ℕ) (size : ℕ) (sized : size ≡ run.rounds * run.n) where
+    size_is : size ≡ reasons_size (instance_of table)
     unfolding reasons_size instance_of
-    size_is = rw (rounds_known table run done) refl
+    size_is = sized ∙ rw (rounds_known table run done, done.processes) refl
 
-    pub all_short : length before < run.rounds * table.n → Writing (λ room. reasons_within room (instance_of table)) before before (Refused 9 0)
+    pub all_short : length before < size → refused 9 0 ≡ reasons_within (length before) (instance_of table)
     unfolding reasons_within
-    all_short h = writing_refused _ before 9 0 (rw (lt-ltb (length before) (reasons_size (instance_of table)) (rw size_is at h)) refl)
+    all_short h = rw (lt-ltb (length before) (reasons_size (instance_of table)) (rw size_is at h)) refl
 
-    fits : run.rounds * table.n ≤ length before → reasons_within (length before) (instance_of table) ≡ accepted (reasons_of (instance_of table))
+    fits : size ≤ length before → reasons_within (length before) (instance_of table) ≡ accepted (reasons_of (instance_of table))
     unfolding reasons_within
     fits h = rw (le-ltb (length before) (reasons_size (instance_of table)) (rw size_is at h)) refl
 
-    rows_whole : rows_by_ends table.n run.ends run.end_rounds table.steps table.reached run.rounds ≡ reasons_of (instance_of table)
+    rows_whole : rows_by_ends table run run.rounds ≡ reasons_of (instance_of table)
     unfolding reasons_of
     rows_whole = rows_of_run table run done run.rounds (omega arith) ∙ ap (reasons_to (instance_of table)) (rounds_known table run done)
 
-    pub all_given_lem : run.rounds * table.n ≤ length before → (after : List ℕ)
-        → after ≡ rows_by_ends table.n run.ends run.end_rounds table.steps table.reached run.rounds ++ drop (run.rounds * table.n) before
-        → Writing (λ room. reasons_within room (instance_of table)) before after (Given (run.rounds * table.n))
-    all_given_lem room after stored =
+    pub all_given : size ≤ length before → (after : List ℕ) → after ≡ rows_by_ends table run run.rounds ++ drop (run.rounds * run.n) before
+        → Writing (λ room. reasons_within room (instance_of table)) before after (Given size)
+    all_given room after stored =
         let long = size_is ∙ sym (length-reasons (instance_of table)) in
-        writing_given _ before (reasons_of (instance_of table)) _ after (fits room) long (stored ∙ rw (rows_whole, long) refl)
+        writing_given _ before (reasons_of (instance_of table)) _ after (fits room) long (stored ∙ rw (rows_whole, sym sized, long) refl)

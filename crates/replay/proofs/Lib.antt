@@ -1,2 +1,1 @@
-pub mod RanIn
-pub mod Untouched
+pub mod LeadsOn

@@ -1,10 +1,12 @@
 // Sets of processes as masks of a word (document 01, 'The forms we use': 'bit j − 1 stands for station j'): made, asked, counted, and stored by.
+// The bounds of p stand in each contract: a type for process numbers would only wrap, at each call, a byte that the caller has.
 #![tactic(auto)]
 
 ghost use Rattle.std.specs.Prelude.{◌≡◌, ◌-◌, ◌^◌, ◌≤◌, ltb, length};
 ghost use Rattle.general.specs.Bits.{member, members_to, set_of, filled};
 
 // The set of processes 1 to p. (A shift by 64 is not allowed.)
+#[tactic(auto, using(general::proofs::Bits::first_mask))]
 pub fn first_processes(p: u8) -> u64
     requires { (1 ≤ p) × (p ≤ 64) }
     ensures { result ≡ 2 ^ p - 1 }
@@ -22,6 +24,7 @@ pub fn only(p: u8) -> u64
 }
 
 // The set of the processes above p and at most n.
+#[tactic(auto, using(general::proofs::Sets::above_set_lem))]
 pub fn above(p: u8, n: u8) -> u64
     requires { (1 ≤ p) × (p ≤ n) × (n ≤ 64) }
     ensures { result ≡ set_of n (λ q. ltb p q) }
@@ -30,6 +33,7 @@ pub fn above(p: u8, n: u8) -> u64
 }
 
 // Whether process p is in a set: bit p - 1, by shift.
+#[tactic(auto, unfolding(general::specs::Bits::member))]
 pub fn is_member(p: u8, set: u64) -> bool
     requires { (1 ≤ p) × (p ≤ 64) }
     ensures { result ≡ member p set }
@@ -38,32 +42,22 @@ pub fn is_member(p: u8, set: u64) -> bool
 }
 
 // How many processes are in a set: the count of ones is the length of the list of members.
+#[tactic(auto, using(general::proofs::Bits::word_members))]
 pub fn size(set: u64) -> u8
     ensures { result ≡ length (members_to 64 set) }
 {
-    u64::count_ones(set) as u8
+    set.count_ones() as u8
 }
 
 // Stores x at the place of each member of a set, lowest first.
-pub fn fill_bytes(a: &mut [u8; 64], set: u64, x: u8)
+#[tactic(auto, using(general::proofs::Filling::one_filled, general::proofs::Filling::none_filled))]
+pub fn fill<T: Copy>(a: &mut [T; 64], set: u64, x: T)
     ensures { a.new ≡ filled set x a.old }
 {
     let mut left = set;
     while left != 0 {
-        let i = u64::trailing_zeros(left) as usize;
+        let i = left.trailing_zeros() as usize;
         a[i] = x;
         left = left & (left - 1);
-    }
-}
-
-// The same for words.
-pub fn fill_words(a: &mut [u32; 64], set: u64, x: u32)
-    ensures { a.new ≡ filled set x a.old }
-{
-    let mut rest = set;
-    while rest != 0 {
-        let i = u64::trailing_zeros(rest) as usize;
-        a[i] = x;
-        rest = rest & (rest - 1);
     }
 }

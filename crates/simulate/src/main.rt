@@ -3,13 +3,11 @@
 // can say: the gate compares what the program writes. What goes wrong with them is told on standard error.
 #![tactic(auto)]
 
-ghost use Rattle.std.specs.Prelude.{◌≡◌, ◌<◌, ◌≤◌, length, take};
+ghost use Rattle.std.specs.Prelude.{◌≡◌, ◌<◌, ◌≤◌, length, take, IfOk};
 ghost use Rattle.answers.specs.ResultLine.{result_size};
 ghost use Rattle.answers.specs.Running.{program_writes};
 ghost use Rattle.ticket_format.specs.Ticket.{ticket_limit};
-ghost use Rattle.simulate.specs.code.Input.{Within};
 
-use answers::Reply;
 use std::env::{Env, FillError};
 use std::io;
 use std::io::{Read, Write};
@@ -19,53 +17,34 @@ const TICKET_ROOM: usize = 4097;
 
 const RESULT_ROOM: usize = 1361;
 
-// What standard input held.
-#[derive(Clone, Copy)]
-enum Input {
-    // This many bytes, all that it holds or all that there is room for.
-    Text(usize),
-    // It could not be read.
-    Failed,
-}
-
 // Says on standard error which stream failed, and how.
 fn tell(rt: &HostRuntime, stream: &str, error: io::Error) {
     let _said = eprintln!(rt; "simulate: {stream}: {error}").is_ok();
 }
 
-// Reads until the input ends or the buffer is full. One read that fails makes the whole input unreadable: half a ticket is none.
+// Reads until the input ends or the buffer is full: how many bytes. One read that fails makes the whole input unreadable: half a ticket is none.
 // The buffer has room for more bytes than a ticket may have, so that a longer text is refused however long it is.
-fn read_input(rt: &HostRuntime, buffer: &mut [u8]) -> Input
+fn read_input(rt: &HostRuntime, buffer: &mut [u8]) -> io::Result<usize>
     requires { ticket_limit < length buffer.old }
-    ensures { Within result (length buffer.old) }
+    ensures { IfOk result (λ size. size ≤ length buffer.old) }
 {
     let mut stdin = rt.stdin();
     let mut at = 0;
     while at < buffer.len() {
-        match stdin.read(&mut buffer[at..]) {
-            Ok(n) => {
-                if n == 0 {
-                    return Input::Text(at);
-                }
-                at += n;
-            }
-            Err(error) => {
-                tell(rt, "standard input", error);
-                return Input::Failed;
-            }
+        let n = stdin.read(&mut buffer[at..])?;
+        if n == 0 {
+            return Ok(at);
         }
+        at += n;
     }
-    Input::Text(at)
+    Ok(at)
 }
 
-// Writes the front of a buffer, and says so on standard error where it cannot be written.
-fn write_front(rt: &HostRuntime, buffer: &[u8], size: usize)
-    requires { size ≤ length buffer.now }
-{
+// Writes bytes, and says so on standard error where they cannot be written.
+fn write_bytes(rt: &HostRuntime, bytes: &[u8]) {
     let mut stdout = rt.stdout();
-    match stdout.write_all(&buffer[..size]) {
-        Ok(()) => {}
-        Err(error) => tell(rt, "standard output", error),
+    if let Err(error) = stdout.write_all(bytes) {
+        tell(rt, "standard output", error);
     }
 }
 
@@ -75,11 +54,10 @@ fn answer_text(text: &[u8], out: &mut [u8]) -> usize
     ensures upper_bound { result ≤ length out.old }
     ensures out_after { take result out.new ≡ program_writes text.now }
 {
-    let ran = running::run_ticket(text, out);
-    match ran {
-        Reply::Given(size) => size as usize,
-        Reply::Refused(number, line) => {
-            result::put_refusal(out, number, line);
+    match running::run_ticket(text, out) {
+        Ok(size) => size,
+        Err(refused) => {
+            result::put_refusal(out, u8::from(refused.refusal), refused.line);
             result::REFUSAL_LINE_SIZE
         }
     }
@@ -89,23 +67,16 @@ fn answer_text(text: &[u8], out: &mut [u8]) -> usize
 fn answer(rt: &HostRuntime, text: &[u8]) {
     let mut out = [0u8; RESULT_ROOM];
     let size = answer_text(text, &mut out);
-    write_front(rt, &out, size);
-}
-
-// Answers the ticket at the front of a buffer.
-fn answer_front(rt: &HostRuntime, buffer: &[u8], size: usize)
-    requires { size ≤ length buffer.now }
-{
-    answer(rt, &buffer[..size]);
+    write_bytes(rt, &out[..size]);
 }
 
 // Answers the ticket on standard input. A failed read writes nothing to standard output.
 fn answer_input(rt: &HostRuntime) {
     let mut buffer = [0u8; TICKET_ROOM];
-    let Input::Text(size) = read_input(rt, &mut buffer) else {
-        return;
-    };
-    answer_front(rt, &buffer, size);
+    match read_input(rt, &mut buffer) {
+        Ok(size) => answer(rt, &buffer[..size]),
+        Err(error) => tell(rt, "standard input", error),
+    }
 }
 
 // Whether the program is called with words behind its name.

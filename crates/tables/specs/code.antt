@@ -1,3 +1,5 @@
 pub mod InstanceOfTable
 pub mod RunOfTable
 pub mod InitialTable
+pub mod Once
+pub mod NoneSent

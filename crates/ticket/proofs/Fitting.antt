@@ -6,8 +6,8 @@ use Rattle.ticket_format.specs.Says.{after_proposal, line_says}
 use Rattle.ticket_format.specs.declared.FailureLine.{FailureLine}
 use Rattle.ticket_format.specs.declared.Place.{Place}
 use Rattle.ticket_format.specs.declared.Place.TheVariants.{Proposals, Failures}
-use Rattle.ticket_format.specs.declared.LineAnswer.{LineAnswer}
-use Rattle.ticket_format.specs.declared.LineAnswer.TheVariants.{Proposal, Crash, End, Refused}
+use Rattle.ticket_format.specs.LineAnswer.{LineAnswer}
+use Rattle.ticket_format.specs.LineAnswer.LineAnswer.{Proposal, Crash, End, Refused}
 use Rattle.ticket_format.proofs.CrashPlaced.{crash_placed}
 use Rattle.ticket_format.proofs.LineCases.{LineCase, proposal_said, crash_said, end_said, line_refused, line_case}
 

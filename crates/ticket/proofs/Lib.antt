@@ -1,8 +1,6 @@
 pub mod Stage
-pub mod CrashTable
 pub mod Stored
 pub mod Fitting
-pub mod HeaderAnswers
-pub mod HeaderRight
+pub mod FirstLine
 pub mod Reached
 pub mod ReadAs

@@ -2,7 +2,7 @@
 use lib.ListN.{take}
 use Rattle.consensus.specs.Instance.{Instance}
 use Rattle.tables.specs.code.InstanceOfTable.{instance_of}
-use Rattle.tables.specs.declared.InstanceTable.{InstanceTable}
+use Rattle.tables.specs.declared.instance.InstanceTable.{InstanceTable}
 use Rattle.ticket_format.specs.Accept.{Stage, body}
 use Rattle.ticket_format.specs.declared.Place.{Place}
 use Rattle.ticket_format.specs.declared.Place.TheVariants.{Proposals, Failures, Ended}
@@ -10,7 +10,7 @@ use Rattle.ticket_format.specs.declared.Place.TheVariants.{Proposals, Failures, 
 -- The instance as described so far: the table's, with the proposals that were made.
 unfoldable pub so_far : Place → InstanceTable → Instance
 so_far (Proposals count) table =
-    record { processes = table.n; resilience = table.t; proposals = take count table.values; pattern = (instance_of table).pattern }
+    record { processes = table.n; resilience = table.t; proposals = take count table.proposals; pattern = (instance_of table).pattern }
 so_far (Failures lines last) table = instance_of table
 so_far Ended table = instance_of table
 

@@ -1,2 +1,1 @@
 pub mod FirstLine
-pub mod Answer

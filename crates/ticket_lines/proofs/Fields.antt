@@ -1,9 +1,11 @@
 -- The bytes of a line by its two words: how many, and each field of a header, a proposal and a failure line. Assumes nothing.
 use mathlib.Core.List.{[], ◌∷◌}
-use mathlib.Core.Path.{◌≡◌, refl, ap, ◌∙◌}
+use mathlib.Core.Path.{◌≡◌, refl, sym, ap, ◌∙◌}
 use Prim.Native.Nat.{ℕ, zero, suc, ◌+◌, ◌*◌, ◌/◌, ◌%◌, ◌^◌, ◌<◌}
 use native.Mathlib.Omega.{arith}
+use lib.Bits.{bit_or, or_shifted}
 use lib.ListN.{length, get_or, take, drop, length-append}
+use Rattle.std.specs.Int.{w32, w64, to_be_bytes, from_be_bytes}
 use Rattle.general.specs.BigEndian.{number, number_from, bytes_of}
 use Rattle.general.proofs.BigEndian.{number_bytes, bytes_low}
 use Rattle.lines.specs.code.Words.{line_bytes}
@@ -17,40 +19,42 @@ pub length-line : (size head tail : ℕ) → length (line_bytes size head tail) 
 unfolding line_bytes
 length-line size head tail = length-bytes_of size (head * 2 ^ 64 + tail)
 
-module _ (head tail : ℕ) where
-  -- A line of one byte, and the header's three.
-  pub end_kind : get_or (line_bytes 1 head tail) 0 0 ≡ tail % 256
+-- The header's three.
+module _ (size head tail : ℕ) (three : size ≡ 3) where
+  pub header_kind : get_or (line_bytes size head tail) 0 0 ≡ get_or (to_be_bytes w64 tail) 5 0
   unfolding line_bytes bytes_of
-  end_kind = omega arith
+  header_kind = rw three (omega arith)
 
-  pub header_kind : get_or (line_bytes 3 head tail) 0 0 ≡ tail / 65536 % 256
+  pub header_n : get_or (line_bytes size head tail) 1 0 ≡ get_or (to_be_bytes w64 tail) 6 0
   unfolding line_bytes bytes_of
-  header_kind = omega arith
+  header_n = rw three (omega arith)
 
-  pub header_n : get_or (line_bytes 3 head tail) 1 0 ≡ tail / 256 % 256
+  pub header_t : get_or (line_bytes size head tail) 2 0 ≡ get_or (to_be_bytes w64 tail) 7 0
   unfolding line_bytes bytes_of
-  header_n = omega arith
+  header_t = rw three (omega arith)
 
-  pub header_t : get_or (line_bytes 3 head tail) 2 0 ≡ tail % 256
+pub ruleset header_fields = (length-line, header_kind, header_n, header_t)
+
+-- A proposal's six.
+module _ (size head tail : ℕ) (six : size ≡ 6) where
+  pub proposal_kind : get_or (line_bytes size head tail) 0 0 ≡ get_or (to_be_bytes w64 tail) 2 0
   unfolding line_bytes bytes_of
-  header_t = omega arith
+  proposal_kind = rw six (omega arith)
 
-  -- A proposal's six.
-  pub proposal_kind : get_or (line_bytes 6 head tail) 0 0 ≡ tail / 1099511627776 % 256
+  pub proposal_station : get_or (line_bytes size head tail) 1 0 ≡ get_or (to_be_bytes w64 tail) 3 0
   unfolding line_bytes bytes_of
-  proposal_kind = omega arith
+  proposal_station = rw six (omega arith)
 
-  pub proposal_station : get_or (line_bytes 6 head tail) 1 0 ≡ tail / 4294967296 % 256
-  unfolding line_bytes bytes_of
-  proposal_station = omega arith
-
-  pub proposal_value : number (drop 2 (line_bytes 6 head tail)) ≡ tail % 4294967296
+  pub proposal_value : number (drop 2 (line_bytes size head tail)) ≡ from_be_bytes w32 (drop 4 (to_be_bytes w64 tail))
   unfolding line_bytes bytes_of number number_from
-  proposal_value = omega arith
+  proposal_value = rw six (omega arith)
 
-  pub failure_count : get_or (line_bytes 13 head tail) 12 0 ≡ tail % 256
-  unfolding line_bytes bytes_of
-  failure_count = omega arith
+pub ruleset proposal_fields = (length-line, proposal_kind, proposal_station, proposal_value)
+
+-- A line of one byte.
+pub end_kind : (size head tail : ℕ) → size ≡ 1 → get_or (line_bytes size head tail) 0 0 ≡ get_or (to_be_bytes w64 tail) 7 0
+unfolding line_bytes bytes_of
+end_kind size head tail one = rw one (omega arith)
 
 eight_of : (v : ℕ) → take 8 (drop 4 (bytes_of 13 v)) ≡ bytes_of 8 (v / 256)
 unfolding bytes_of
@@ -64,25 +68,36 @@ set_bytes head tail =
     eight_of (head * 2 ^ 64 + tail) ∙ ap (bytes_of 8) above ∙ bytes_low 8 (head / 256) (head % 256 * 72057594037927936 + tail / 256)
 
 -- A failure line's thirteen, of which eight are in the lower word.
-module _ (head tail : ℕ) (low : tail < 18446744073709551616) where
-  pub failure_kind : get_or (line_bytes 13 head tail) 0 0 ≡ head / 4294967296 % 256
-  unfolding line_bytes bytes_of
-  failure_kind = omega arith
+pub failure_kind : (size head tail : ℕ) → size ≡ 13 → tail < 2 ^ 64 → get_or (line_bytes size head tail) 0 0 ≡ get_or (to_be_bytes w64 head) 3 0
+unfolding line_bytes bytes_of
+failure_kind size head tail thirteen low = rw thirteen (omega arith)
 
-  pub failure_station : get_or (line_bytes 13 head tail) 1 0 ≡ head / 16777216 % 256
+module _ (head tail : ℕ) (low : tail < 2 ^ 64) where
+  pub failure_station : get_or (line_bytes 13 head tail) 1 0 ≡ get_or (to_be_bytes w64 head) 4 0
   unfolding line_bytes bytes_of
   failure_station = omega arith
 
-  pub failure_round : get_or (line_bytes 13 head tail) 2 0 ≡ head / 65536 % 256
+  pub failure_round : get_or (line_bytes 13 head tail) 2 0 ≡ get_or (to_be_bytes w64 head) 5 0
   unfolding line_bytes bytes_of
   failure_round = omega arith
 
-  pub failure_step : get_or (line_bytes 13 head tail) 3 0 ≡ head / 256 % 256
+  pub failure_step : get_or (line_bytes 13 head tail) 3 0 ≡ get_or (to_be_bytes w64 head) 6 0
   unfolding line_bytes bytes_of
   failure_step = omega arith
 
-  pub set_fits : head % 256 * 72057594037927936 + tail / 256 < 18446744073709551616
-  set_fits = omega arith
+  -- The set's first byte is the last of the upper word.
+  pub failure_set : number (take 8 (drop 4 (line_bytes 13 head tail))) ≡ bit_or (head * 2 ^ 56 % 2 ^ 64) (tail / 256)
+  failure_set =
+      let fits : head % 256 * 72057594037927936 + tail / 256 < 256 ^ 8 = omega arith in
+      let below : tail / 256 < 2 ^ 56 = omega arith in
+      let shifted : head * 2 ^ 56 % 2 ^ 64 ≡ head % 256 * 2 ^ 56 = omega arith in
+      ap number (set_bytes head tail) ∙ number_bytes 8 (head % 256 * 72057594037927936 + tail / 256) fits
+      ∙ rw shifted (sym (or_shifted (head % 256) 56 (tail / 256) below))
 
-  pub failure_set : number (take 8 (drop 4 (line_bytes 13 head tail))) ≡ head % 256 * 72057594037927936 + tail / 256
-  failure_set = ap number (set_bytes head tail) ∙ number_bytes 8 (head % 256 * 72057594037927936 + tail / 256) set_fits
+  pub failure_count : get_or (line_bytes 13 head tail) 12 0 ≡ get_or (to_be_bytes w64 tail) 7 0
+  unfolding line_bytes bytes_of
+  failure_count = omega arith
+
+pub ruleset kinds = (length-line, end_kind, failure_kind)
+
+pub ruleset failure_fields = (failure_station, failure_round, failure_step, failure_set, failure_count)

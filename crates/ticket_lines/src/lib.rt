@@ -3,141 +3,150 @@
 #![tactic(auto)]
 
 ghost use Rattle.std.specs.Prelude.{◌≡◌, ◌≤◌, ◌<◌};
-ghost use Rattle.lines.specs.code.Words.{line_bytes};
 ghost use Rattle.ticket_format.specs.Says.{header_says, after_proposal, proposal_says, failure_line, crash_says, failure_says, line_says};
-ghost use Rattle.ticket_format.specs.declared.LineAnswer.TheVariants.{Proposal};
 ghost use Rattle.ticket_lines.specs.code.Places.{HasPlaces};
+ghost use Rattle.ticket_lines.specs.code.Said.{bytes_in, header_by, line_by};
+ghost use Rattle.lines.specs.code.Words.{line_bytes};
 
-use ticket_format::{FailureLine, HeaderAnswer, LineAnswer, Place};
+use lines::Line;
+use refusals::Refusal;
+use ticket_checks::Limits;
+use ticket_format::{FailureLine, Place};
 
 // The kinds of a ticket's lines, and the bytes that each has.
-const HEADER: u64 = 1;
+const HEADER: u8 = 1;
 
 const HEADER_SIZE: usize = 3;
 
-const PROPOSAL: u64 = 2;
+const PROPOSAL: u8 = 2;
 
 const PROPOSAL_SIZE: usize = 6;
 
-const FAILURE: u64 = 3;
+const FAILURE: u8 = 3;
 
 const FAILURE_SIZE: usize = 13;
 
-const END: u64 = 4;
+const END: u8 = 4;
 
 const END_SIZE: usize = 1;
 
-// 01, n, t.
-pub fn header_line(size: usize, head: u64, tail: u64) -> HeaderAnswer
-    ensures { result ≡ header_says (line_bytes size head tail) }
-{
-    if size != HEADER_SIZE {
-        return HeaderAnswer::Refused(3);
-    }
-    if tail / 65536 % 256 != HEADER {
-        return HeaderAnswer::Refused(3);
-    }
-    let n = (tail / 256 % 256) as u8;
-    let t = (tail % 256) as u8;
-    let within = ticket_checks::within_limits(n, t);
-    if !within {
-        return HeaderAnswer::Refused(4);
-    }
-    HeaderAnswer::Limits(n, t)
+// What an accepted line behind the header says.
+#[derive(Clone, Copy)]
+pub enum Said {
+    // After so many proposals this value; and the place behind it.
+    Proposal(u8, u32, Place),
+    // A crash; with it there are so many.
+    Crash(u8, FailureLine),
+    // The 04.
+    End,
 }
 
-// One proposal more, after `count`; the n-th is the last.
-fn with_value(count: u8, n: u8, value: u32) -> LineAnswer
+// 01, n, t.
+#[tactic(auto, using(crate::proofs::Fields::header_fields), unfolding(ticket_format::specs::Says::header_says, ticket_format::specs::Says::is_kind, refusals::specs::Number::number_of))]
+pub fn header_line(line: Line) -> Result<Limits, Refusal>
+    ensures { header_by result ≡ header_says (bytes_in line) }
+{
+    let [.., kind, n, t] = line.tail.to_be_bytes();
+    if line.size != HEADER_SIZE || kind != HEADER {
+        return Err(Refusal::WrongLine);
+    }
+    let limits = Limits { n, t };
+    if !ticket_checks::within_limits(limits) {
+        return Err(Refusal::OutsideLimits);
+    }
+    Ok(limits)
+}
+
+// The place behind one proposal more, after `count` of them; the n-th is the last.
+#[tactic(auto, unfolding(ticket_format::specs::Says::after_proposal))]
+fn after_proposal(n: u8, count: u8) -> Place
     requires { (count < n) × (n ≤ 64) }
-    ensures { result ≡ Proposal count value (after_proposal n count) }
+    ensures { result ≡ after_proposal n count }
 {
     let proposals = count + 1;
     if proposals == n {
-        return LineAnswer::Proposal(count, value, Place::Failures(0, 0));
+        Place::Failures(0, 0)
+    } else {
+        Place::Proposals(proposals)
     }
-    LineAnswer::Proposal(count, value, Place::Proposals(proposals))
 }
 
 // 02, station, value (4 bytes).
-fn proposal_line(size: usize, head: u64, tail: u64, count: u8, n: u8) -> LineAnswer
+#[tactic(auto, using(crate::proofs::Fields::proposal_fields), unfolding(ticket_format::specs::Says::proposal_says, ticket_format::specs::Says::is_kind, refusals::specs::Number::number_of))]
+fn proposal_line(line: Line, count: u8, n: u8) -> Result<Said, Refusal>
     requires { (count < n) × (n ≤ 64) }
-    ensures { result ≡ proposal_says n count (line_bytes size head tail) }
+    ensures { line_by result ≡ proposal_says n count (bytes_in line) }
 {
-    if size != PROPOSAL_SIZE {
-        return LineAnswer::Refused(3);
+    let [.., kind, process, a, b, c, d] = line.tail.to_be_bytes();
+    if line.size != PROPOSAL_SIZE || kind != PROPOSAL {
+        return Err(Refusal::WrongLine);
     }
-    if tail / 1099511627776 % 256 != PROPOSAL {
-        return LineAnswer::Refused(3);
-    }
-    let process = (tail / 4294967296 % 256) as u8;
     if process != count + 1 {
-        return LineAnswer::Refused(5);
+        return Err(Refusal::NotNextProposal);
     }
-    let value = (tail % 4294967296) as u32;
-    with_value(count, n, value)
+    let value = u32::from_be_bytes([a, b, c, d]);
+    Ok(Said::Proposal(count, value, after_proposal(n, count)))
 }
 
 // A failure line whose kind and length are right, after `lines` of them, the last of process `last`.
-fn crash_line(l: FailureLine, lines: u8, last: u8, n: u8, t: u8) -> LineAnswer
-    requires { n ≤ 64 }
-    ensures { result ≡ crash_says n t lines last l }
+#[tactic(auto, using(ticket_format::proofs::CrashPlaced::crash_placed), unfolding(ticket_format::specs::Says::crash_says, refusals::specs::Number::number_of))]
+fn crash_line(l: FailureLine, lines: u8, last: u8, limits: Limits) -> Result<Said, Refusal>
+    requires { limits.n ≤ 64 }
+    ensures { line_by result ≡ crash_says limits.n limits.t lines last l }
 {
-    let placed = ticket_checks::places_crash(n, t, last, l);
-    if t <= lines {
-        return LineAnswer::Refused(6);
+    if limits.t <= lines {
+        return Err(Refusal::TooManyCrashes);
     }
-    if !placed {
-        return LineAnswer::Refused(7);
+    if !ticket_checks::places_crash(limits, last, l) {
+        return Err(Refusal::CrashMisplaced);
     }
-    let suits = ticket_checks::suits_step(n, l);
-    if !suits {
-        return LineAnswer::Refused(8);
+    if !ticket_checks::suits_step(limits.n, l) {
+        return Err(Refusal::CrashUnsuited);
     }
-    let counted = lines + 1;
-    LineAnswer::Crash(counted, l)
+    Ok(Said::Crash(lines + 1, l))
 }
 
 // Station, round, step, set (8 bytes) and count of a line of 13 bytes.
-fn failure_fields(head: u64, tail: u64) -> FailureLine
-    ensures { result ≡ failure_line (line_bytes 13 head tail) }
+#[tactic(auto, using(crate::proofs::Fields::failure_fields), unfolding(ticket_format::specs::Says::failure_line))]
+fn failure_fields(line: Line) -> FailureLine
+    ensures { result ≡ failure_line (line_bytes 13 line.head line.tail) }
 {
+    let [.., process, round, step, _] = line.head.to_be_bytes();
+    let [.., count] = line.tail.to_be_bytes();
     FailureLine {
-        process: (head / 16777216 % 256) as u8,
-        round: (head / 65536 % 256) as u8,
-        step: (head / 256 % 256) as u8,
-        reached: head % 256 * 72057594037927936 + tail / 256,
-        count: (tail % 256) as u8,
+        process,
+        round,
+        step,
+        // `from_be_bytes` of its eight bytes took 40 instructions more a line, 9 % of reading a ticket.
+        reached: (line.head << 56) | (line.tail >> 8),
+        count,
     }
 }
 
 // 03 and a failure line's bytes; or 04, the end.
-fn failure_line(size: usize, head: u64, tail: u64, lines: u8, last: u8, n: u8, t: u8) -> LineAnswer
-    requires { n ≤ 64 }
-    ensures { result ≡ failure_says n t lines last (line_bytes size head tail) }
+#[tactic(auto, using(crate::proofs::Fields::kinds), unfolding(ticket_format::specs::Says::failure_says, ticket_format::specs::Says::is_kind, refusals::specs::Number::number_of))]
+fn failure_line(line: Line, lines: u8, last: u8, limits: Limits) -> Result<Said, Refusal>
+    requires { limits.n ≤ 64 }
+    ensures { line_by result ≡ failure_says limits.n limits.t lines last (bytes_in line) }
 {
-    if size == END_SIZE {
-        if tail % 256 != END {
-            return LineAnswer::Refused(3);
-        }
-        return LineAnswer::End;
+    let [.., end] = line.tail.to_be_bytes();
+    let [_, _, _, kind, ..] = line.head.to_be_bytes();
+    match line.size {
+        END_SIZE if end == END => Ok(Said::End),
+        FAILURE_SIZE if kind == FAILURE => crash_line(failure_fields(line), lines, last, limits),
+        _ => Err(Refusal::WrongLine),
     }
-    if size != FAILURE_SIZE {
-        return LineAnswer::Refused(3);
-    }
-    if head / 4294967296 % 256 != FAILURE {
-        return LineAnswer::Refused(3);
-    }
-    crash_line(failure_fields(head, tail), lines, last, n, t)
 }
 
 // One line behind the header, at a place of a ticket whose header said n and t.
-pub fn accept_line(size: usize, head: u64, tail: u64, place: Place, n: u8, t: u8) -> LineAnswer
-    requires { HasPlaces place n }
-    ensures { result ≡ line_says n t place (line_bytes size head tail) }
+#[tactic(auto, unfolding(ticket_format::specs::Says::line_says, crate::specs::code::Places::HasPlaces, refusals::specs::Number::number_of))]
+pub fn accept_line(line: Line, place: Place, limits: Limits) -> Result<Said, Refusal>
+    requires { HasPlaces place limits.n }
+    ensures { line_by result ≡ line_says limits.n limits.t place (bytes_in line) }
 {
     match place {
-        Place::Proposals(count) => proposal_line(size, head, tail, count, n),
-        Place::Failures(lines, last) => failure_line(size, head, tail, lines, last, n, t),
-        Place::Ended => LineAnswer::Refused(3),
+        Place::Proposals(count) => proposal_line(line, count, limits.n),
+        Place::Failures(lines, last) => failure_line(line, lines, last, limits),
+        Place::Ended => Err(Refusal::WrongLine),
     }
 }

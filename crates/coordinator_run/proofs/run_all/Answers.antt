@@ -1,81 +1,82 @@
--- `coordinator_run::run_all` meets its contract. Assumes nothing.
-use Rattle.std.proofs.Common.{◌≡◌, ℕ, List, sym, ap, arith}
-use Rattle.tables.specs.declared.RunTable.{RunTable}
-use Rattle.tables.specs.code.InitialTable.{initial_table}
-use Rattle.coordinator_run.proofs.TableLimits.{limits}
-use Rattle.coordinator_run.proofs.AtRound.{at_first_round, round_allowed, at_next_round}
-use Rattle.coordinator_run.proofs.Whole.{none_before, data_added, commits_added, sent_next}
-use Rattle.coordinator_run.proofs.Settling.{unsettled_first, unasked, until_over, until_settled_lem, unsettled_next, until_last, to_the_last}
+-- `run_all` meets its contract. Assumes nothing.
+use Rattle.std.proofs.Common.{◌≡◌, false, ◌+◌, ◌-◌, sym, ◌∙◌, arith}
+use Rattle.tables.specs.code.InstanceOfTable.{instance_of}
+use Rattle.tables.proofs.Places.{resilience_of}
+use Rattle.tables.specs.code.RunOfTable.{states_in}
+use Rattle.coordinator.specs.Settling.{values_held, one_value}
+use Rattle.coordinator_run.proofs.OfTable.{before_rounds, round_of, not_beyond}
+use Rattle.coordinator_run.proofs.Rounds.{RoundEnded, round_allowed, after_round}
+use Rattle.coordinator_run.proofs.Stopping.{Unsettled, unsettled_first, unasked, all_ended, all_run, settled, unsettled_next}
 use Rattle.coordinator_run.proofs.run_all.Goals as goal
-use Rattle.coordinator_run.proofs.run_all.Goals.{then-until_settled+else-hold_one_value, else-until_settled}
-
--- The run begins with the values that were given.
-begun : (n : ℕ) (values : List ℕ) (run : RunTable) → run ≡ initial_table n values → values ≡ run.values
-begun n values run e = sym (ap (λ (table : RunTable). table.values) e)
-
-pub overflow_add-last : goal.overflow_add-last
-overflow_add-last c = omega (arith, limits _ c.requires.0)
-
-pub crash_sets-faulty-requires : goal.crash_sets-faulty-requires
-crash_sets-faulty-requires c = (limits _ c.requires.0).1
-
-pub initial_run-run-requires : goal.initial_run-run-requires
-initial_run-run-requires c = let within = limits _ c.requires.0 in (within.0, within.1)
+use Rattle.coordinator_run.proofs.run_all.Goals.{After-run_round-run, else-until_settled-via-then-until_settled+else-hold_one_value, else-until_settled-via-else-until_settled}
 
 pub loop-r-init : goal.loop-r-init
-loop-r-init c =
-    let same = begun _ _ _ c.initial_run-run.ensures in
-    let formed = rw same at c.requires.0 in (
-      at_first_round _ formed _ _ _ (omega arith) c.crash_sets-faulty.ensures (rw same at c.initial_run-run.ensures),
-      none_before _ formed _ _ c.requires.1,
-      unsettled_first _ _,
-    )
+loop-r-init c = (before_rounds _ c.args.instance.well_formed _ _ c.initial_run-run.ensures c.requires, unsettled_first _ _)
 
 pub returns-then-run-eq0 : goal.returns-then-run-eq0
 returns-then-run-eq0 c =
-    let (now, sent, unsettled) = c.loop-r.invariant in
-    rw (begun _ _ _ c.initial_run-run.ensures) (to_the_last _ _ _ _ _ (until_over _ _ _ _ _ now _ unsettled _ _ sent c.if-run-eq0.true))
+    let (now, unsettled) = c.loop-r.invariant in
+    all_ended _ c.args.instance.well_formed _ c.loop-r.auto.r (not_beyond _ _ c.loop-r-test.true) _ _ now _ unsettled c.if-run-eq0.true
 
 pub run_round-run-requires : goal.run_round-run-requires
-run_round-run-requires c = round_allowed _ _ _ _ _ c.loop-r.invariant.0 c.loop-r-test.true c.if-run-eq0.false
+run_round-run-requires c =
+    let (now, unsettled) = c.loop-r.invariant in
+    let formed = c.args.instance.well_formed in
+    let of = round_of _ formed _ c.crash_sets-faulty.ensures _ now.processes _ c.loop-r.auto.r c.loop-r-test.true in
+    round_allowed _ formed _ _ _ now c.loop-r.auto.r (not_beyond _ _ c.loop-r-test.true) _ _ of c.if-run-eq0.false
 
-pub overflow_sub-data_by : goal.overflow_sub-data_by
-overflow_sub-data_by c = omega (arith, data_added _ _ _ _ _ c.loop-r.invariant.0 _ c.loop-r-test.true c.run_round-run.ensures)
+ended : (c : After-run_round-run) → RoundEnded (instance_of c.args.instance.table.now) c.loop-r.r c.loop-r.run c.run_round-run.result c.loop-r.sent
+ended c =
+    let (now, unsettled) = c.loop-r.invariant in
+    let formed = c.args.instance.well_formed in
+    let of = round_of _ formed _ c.crash_sets-faulty.ensures _ now.processes _ c.loop-r.auto.r c.loop-r-test.true in
+    after_round _ formed _ _ _ now c.loop-r.auto.r (not_beyond _ _ c.loop-r-test.true) _ _ of _ c.run_round-run.ensures
 
-pub overflow_cast-data_by : goal.overflow_cast-data_by
-overflow_cast-data_by c = omega (arith, data_added _ _ _ _ _ c.loop-r.invariant.0 _ c.loop-r-test.true c.run_round-run.ensures)
+pub overflow_sub-sent : goal.overflow_sub-sent
+overflow_sub-sent c = omega (arith, ended (goal.at.overflow_sub-sent c).After-run_round-run)
 
-pub overflow_sub-commits_by : goal.overflow_sub-commits_by
-overflow_sub-commits_by c = omega (arith, commits_added _ _ _ _ _ c.loop-r.invariant.0 _ c.loop-r-test.true c.run_round-run.ensures)
+pub overflow_cast-sent : goal.overflow_cast-sent
+overflow_cast-sent c = omega (arith, ended (goal.at.overflow_cast-sent c).After-run_round-run)
 
-pub overflow_cast-commits_by : goal.overflow_cast-commits_by
-overflow_cast-commits_by c = omega (arith, commits_added _ _ _ _ _ c.loop-r.invariant.0 _ c.loop-r-test.true c.run_round-run.ensures)
+pub overflow_sub-sent-in-loop-r : goal.overflow_sub-sent-in-loop-r
+overflow_sub-sent-in-loop-r c = omega (arith, ended (goal.at.overflow_sub-sent-in-loop-r c).After-run_round-run)
+
+pub overflow_cast-sent-in-loop-r : goal.overflow_cast-sent-in-loop-r
+overflow_cast-sent-in-loop-r c = omega (arith, ended (goal.at.overflow_cast-sent-in-loop-r c).After-run_round-run)
+
+-- A round that does not qualify is no reason to stop.
+goes_on : (c : After-run_round-run) → false ≡ one_value (values_held (states_in c.run_round-run.result))
+    → Unsettled (instance_of c.args.instance.table.now) c.args.until_settled (c.loop-r.r + 1)
+goes_on c e =
+    let (now, unsettled) = c.loop-r.invariant in
+    unsettled_next _ c.args.instance.well_formed _ c.loop-r.auto.r (not_beyond _ _ c.loop-r-test.true) _ _ (ended c).ended _ unsettled e
 
 pub returns-then-hold_one_value : goal.returns-then-hold_one_value
 returns-then-hold_one_value c =
-    let (now, sent, unsettled) = c.loop-r.invariant in
-    let inside = c.loop-r-test.true in
-    let done = c.run_round-run.ensures in
-    rw (begun _ _ _ c.initial_run-run.ensures)
-    (to_the_last _ _ _ _ _
-    (until_settled_lem _ _ _ _ _ now _ unsettled _ inside done _ _ (sent_next _ _ _ _ _ now _ inside done _ _ sent) c.if-until_settled.true
-    _ c.hold_one_value.ensures c.if-hold_one_value.true))
+    let (now, unsettled) = c.loop-r.invariant in
+    let after = (ended (goal.at.returns-then-hold_one_value c).After-run_round-run).ended in
+    settled _ c.args.instance.well_formed _ c.loop-r.auto.r (not_beyond _ _ c.loop-r-test.true) _ _ after _ unsettled c.if-until_settled.true
+    (sym c.if-hold_one_value.true ∙ c.hold_one_value.ensures)
 
 pub loop-r-preserved : goal.loop-r-preserved
 loop-r-preserved c =
-    let (now, sent, unsettled) = c.loop-r.invariant in
-    let inside = c.loop-r-test.true in
-    let done = c.run_round-run.ensures in (
-      at_next_round _ _ _ _ _ now _ inside done,
-      sent_next _ _ _ _ _ now _ inside done _ _ sent,
-      elim c.if-until_settled.branch [
-        | then-until_settled+else-hold_one_value w ↦
-            unsettled_next _ _ _ _ _ now _ unsettled _ inside done _ w.hold_one_value.ensures w.if-hold_one_value.false
-        | else-until_settled w ↦ unasked _ _ _ w.if-until_settled.false
+    let ran = (goal.at.loop-r-preserved c).After-run_round-run in
+    let number : c.loop-r.r + 1 - 1 ≡ c.loop-r.r = omega arith in (
+      rw number (ended ran).ended,
+      elim c.else-until_settled.branch [
+        | else-until_settled-via-then-until_settled+else-hold_one_value w ↦ goes_on ran (sym w.if-hold_one_value.false ∙ w.hold_one_value.ensures)
+        | else-until_settled-via-else-until_settled w ↦ unasked _ _ _ w.if-until_settled.false
       ],
     )
 
-pub returns : goal.returns
-returns c =
-    let (now, sent, unsettled) = c.loop-r.invariant in
-    rw (begun _ _ _ c.initial_run-run.ensures) (to_the_last _ _ _ _ _ (until_last _ _ _ _ _ now _ unsettled _ _ sent c.loop-r-test.false))
+pub returns-else-until_settled : goal.returns-else-until_settled
+returns-else-until_settled c =
+    let ran = (goal.at.returns-else-until_settled c).After-run_round-run in
+    let unsettled : Unsettled (instance_of c.args.instance.table.now) c.args.until_settled (c.loop-r.r + 1) =
+    elim c.else-until_settled.branch [
+      | else-until_settled-via-then-until_settled+else-hold_one_value w ↦ goes_on ran (sym w.if-hold_one_value.false ∙ w.hold_one_value.ensures)
+      | else-until_settled-via-else-until_settled w ↦ unasked _ _ _ w.if-until_settled.false
+    ]
+    in
+    all_run _ c.args.instance.well_formed _ c.loop-r.auto.r (not_beyond _ _ c.loop-r-test.true) _ _ (ended ran).ended _ unsettled
+    (rw resilience_of (omega arith))

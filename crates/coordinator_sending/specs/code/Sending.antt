@@ -2,7 +2,9 @@
 use Rattle.std.specs.Prelude.{◌≡◌, ℕ, ◌≤◌, Bool, cond, eqb}
 use Rattle.general.specs.Bits.{set_of}
 use Rattle.coordinator.specs.Message.{gets_data, gets_commit}
-use Rattle.consensus.specs.Instance.{Fault, CrashPoint, crashes}
+use Rattle.consensus.specs.declared.Fault.{Fault}
+use Rattle.consensus.specs.declared.Fault.TheVariants.{Crashes as crashes}
+use Rattle.consensus.specs.declared.CrashPoint.{CrashPoint}
 use Rattle.coordinator.specs.Delivery.{reach}
 use Rattle.coordinator.specs.WellFormed.{PointAllowed}
 use Rattle.coordinator_sending.specs.declared.Sent.{Sent}

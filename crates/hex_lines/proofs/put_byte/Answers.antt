@@ -5,6 +5,6 @@ use Rattle.hex_lines.proofs.put_byte.Goals as goal
 
 pub returns : goal.returns
 returns c =
-    let high = letter_at _ (c.args.b / 16) c.requires.letters_value (omega arith) in
-    let low = letter_at _ (c.args.b % 16) c.requires.letters_value (omega arith) in
+    let high = letter_at (c.args.b / 16) (omega arith) in
+    let low = letter_at (c.args.b % 16) (omega arith) in
     cc

@@ -1,15 +1,11 @@
--- `any_above` meets its contract. The loop's invariant: what is asked of all costs is asked of those from here on. Assumes nothing.
-use Rattle.std.proofs.Common.{sym, ◌∙◌, arith}
-use Rattle.pricing_lines.proofs.Turn.{above_here, above_later, above_nowhere}
+-- `any_above` meets its contract. Assumes nothing.
+use Rattle.std.proofs.Common.{ltb, ◌∙◌, rules, tests}
+use Rattle.std.proofs.lemmas.Iterator.{YieldsList-from_slice}
+use Rattle.std.proofs.lemmas.Iterator.Search.{any_from_yields_List}
+use Rattle.pricing_lines.proofs.Costs.{any_is}
 use Rattle.pricing_lines.proofs.any_above.Goals as goal
 
-pub returns-then-limit-costs : goal.returns-then-limit-costs
-returns-then-limit-costs c =
-    sym (c.loop-i.invariant.1 ∙ above_here c.args.costs.now c.loop-i.i _ (omega arith) c.if-limit-costs.true)
-
-pub loop-i-preserved : goal.loop-i-preserved
-loop-i-preserved c =
-    (omega arith, c.loop-i.invariant.1 ∙ above_later c.args.costs.now c.loop-i.i c.args.limit (omega arith) (omega arith))
-
 pub returns : goal.returns
-returns c = sym (c.loop-i.invariant.1 ∙ above_nowhere c.args.costs.now c.loop-i.i _ (omega arith))
+returns c =
+    any_from_yields_List (λ cost. ltb c.args.limit cost) _ _ _ c.any.ensures.ran (YieldsList-from_slice c.args.costs.now cc) (λ x b q k. search (rules, tests))
+    ∙ any_is c.args.limit c.args.costs.now

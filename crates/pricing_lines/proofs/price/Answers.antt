@@ -1,22 +1,27 @@
--- `price` meets its contract. The loop's invariant: the sum is the price of the costs so far (`SumTo`). Assumes nothing.
-use Rattle.std.proofs.Common.{arith}
-use Rattle.pricing_lines.proofs.Turn.{sum_first, sum_whole, cost_low, price_low, sum_next}
+-- `price` meets its contract. Assumes nothing.
+use Rattle.std.proofs.Common.{◌∙◌, ◌≤◌, rules, tests, arith}
+use Rattle.std.proofs.lemmas.Iterator.{YieldsList-from_slice, YieldsList-from_map}
+use Rattle.std.proofs.lemmas.Iterator.Consumers.{sum_by_from_yields_List, fits_by_from_yields_list}
+use Rattle.std.proofs.lemmas.Iterator.Adapters.{serves_from_places}
+use Rattle.pricing.specs.Quote.{highest_cost}
+use Rattle.pricing_lines.proofs.Costs.{each_low, priced, sum_is, sum_fits}
 use Rattle.pricing_lines.proofs.price.Goals as goal
 
-pub loop-k-init : goal.loop-k-init
-loop-k-init c = sum_first _ _ c.requires
+pub sum-requires-clause-can : goal.sum-requires-clause-can
+sum-requires-clause-can c = (
+  tt,
+  serves_from_places (YieldsList-from_slice c.args.costs.now cc) (λ x q k. search (rules, tests))
+      (λ x k inside e. let low : x.now ≤ highest_cost = each_low c.args.costs.now c.requires x.now k inside e in search rules),
+)
 
-pub line_price-sum-requires : goal.line_price-sum-requires
-line_price-sum-requires c = cost_low _ _ _ _ c.loop-k.invariant (omega arith)
-
-pub overflow_add-sum : goal.overflow_add-sum
-overflow_add-sum c =
-    let far = c.loop-k.invariant in
-    let low = price_low _ _ _ _ far (omega arith) (omega arith) in
-    omega (arith, c.line_price-sum.ensures, low, far.low, far.few)
-
-pub loop-k-preserved : goal.loop-k-preserved
-loop-k-preserved c = rw c.line_price-sum.ensures (sum_next _ _ _ _ c.loop-k.invariant (omega arith) (omega arith))
+pub sum-requires-clause-fits : goal.sum-requires-clause-fits
+sum-requires-clause-fits c =
+    fits_by_from_yields_list (priced c.from-rates.result) c.args.costs.now c.map.result _
+    (YieldsList-from_map _ (priced c.from-rates.result) (YieldsList-from_slice c.args.costs.now cc) c.map.ensures.closure (λ x r q k. search (rules, tests)))
+    (sum_fits c.args.value c.from-rates.result c.from-rates.ensures c.args.costs.now (omega arith) c.requires)
 
 pub returns : goal.returns
-returns c = sum_whole _ _ _ _ c.loop-k.invariant (omega (arith, c.loop-k.invariant.inside))
+returns c =
+    sum_by_from_yields_List (priced c.from-rates.result) c.args.costs.now c.map.result _ c.sum.ensures.ran
+    (YieldsList-from_map _ (priced c.from-rates.result) (YieldsList-from_slice c.args.costs.now cc) c.map.ensures.closure (λ x r q k. search (rules, tests)))
+    ∙ sum_is c.args.value c.from-rates.result c.from-rates.ensures c.args.costs.now

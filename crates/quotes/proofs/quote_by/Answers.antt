@@ -1,15 +1,22 @@
 -- `quote_by` meets its contract: a law for each reply. Assumes nothing.
-use Rattle.quotes.proofs.Answers.{lines_refused, not_decided_lem, priced_by}
+use Rattle.std.proofs.Common.{◌∙◌, sym}
+use Rattle.refusals.specs.Answered.{refusal_in}
+use Rattle.quotes.proofs.Answers.{lines_told, none_told, priced}
 use Rattle.quotes.proofs.quote_by.Goals as goal
 
-pub returns-then-refusal-ne0 : goal.returns-then-refusal-ne0
-returns-then-refusal-ne0 c = lines_refused c.args.decided c.args.value _ _ c.lines_refusal-refusal.ensures c.if-refusal-ne0.true
+pub returns-in_err-check_lines : goal.returns-in_err-check_lines
+unfolding refusal_in
+returns-in_err-check_lines c = lines_told _ _ _ c.in_err-check_lines.ensures _ c.from_residual.ensures.1
 
-pub returns-then-not-decided : goal.returns-then-not-decided
-returns-then-not-decided c =
-    not_decided_lem c.args.decided c.args.value _ _ c.lines_refusal-refusal.ensures c.if-refusal-ne0.false c.if-not-decided.true
+pub returns-in_err-value : goal.returns-in_err-value
+unfolding refusal_in
+returns-in_err-value c =
+    none_told _ _ c.in_ok-check_lines.ensures _ (sym c.ok_or.ensures.value ∙ c.in_err-value.was) _ c.from_residual-in_err-value.ensures.1
+
+pub price-requires : goal.price-requires
+unfolding refusal_in
+price-requires c = sym c.in_ok-check_lines.ensures
 
 pub returns : goal.returns
-returns c =
-    priced_by c.args.decided c.args.value _ _ c.lines_refusal-refusal.ensures c.if-refusal-ne0.false c.if-not-decided.false _
-    c.price-pence.ensures
+unfolding refusal_in
+returns c = priced _ _ c.in_ok-check_lines.ensures _ (sym c.ok_or.ensures.value ∙ c.in_ok-value.was) _ c.price.ensures

@@ -2,8 +2,8 @@
 use Rattle.std.proofs.Common.{length, ◌-◌}
 use Rattle.replay.proofs.replay.Given as goal
 
-abbrev pub invariant-loop-here : goal.invariant-loop-here
-invariant-loop-here l = Unit {0}
+abbrev pub invariant-loop-line : goal.invariant-loop-line
+invariant-loop-line l = Unit {0}
 
-abbrev pub decreases-loop-here : goal.decreases-loop-here
-decreases-loop-here l = length l.text - l.here.at
+abbrev pub decreases-loop-line : goal.decreases-loop-line
+decreases-loop-line l = length l.text - l.here.at

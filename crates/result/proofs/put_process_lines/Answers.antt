@@ -1,33 +1,47 @@
--- `result::put_process_lines` meets its contract. Invariant: the lines of the processes passed, followed by what stood there before. Assumes nothing.
-use Rattle.std.proofs.Common.{◌≡◌, ◌+◌, ◌-◌, length, take, refl, sym, ap, ◌∙◌, arith}
-use Rattle.tables.specs.code.RunOfTable.{states_over}
-use Rattle.tables.proofs.Places.{length_states_over, state_over_lem}
-use Rattle.answers.specs.ResultLine.{line_by, process_lines}
-use Rattle.answers.proofs.ResultLength.{length-line}
-use Rattle.result.proofs.ResultLine.{line_of, length-with, with_none, with_all, with_more}
+-- `result::put_process_lines` meets its contract. Assumes nothing.
+use Rattle.std.proofs.Common.{◌≡◌, ◌+◌, ◌-◌, ◌*◌, length, take, ◌∙◌, sym, arith}
+use borrow.Rule.Slice.PartMut.{put_mid}
+use Rattle.tables.specs.code.RunOfTable.{states_in}
+use Rattle.tables.proofs.Places.{length_states_over, state_at_place}
+use Rattle.result.proofs.ResultLine.{line_of, with_lines, with_none, with_all, with_more}
 use Rattle.result.proofs.put_process_lines.Goals as goal
+use Rattle.result.proofs.put_process_lines.Goals.{After-put_line}
 
-pub loop-i-init : goal.loop-i-init
-loop-i-init c = (omega arith, omega arith, refl, sym (with_none _ (length-line _ _) _ _))
-
-pub loop-i-preserved : goal.loop-i-preserved
-loop-i-preserved c =
+pub loop-p-init : goal.loop-p-init
+loop-p-init c =
     let a = c.args in
-    let i = c.loop-i.i in
-    let states = states_over a.n a.ends.now a.end_rounds.now a.values.now in
-    let inv = c.loop-i.invariant in
-    let size : length states ≡ a.n = length_states_over a.n a.ends.now a.end_rounds.now a.values.now inv.1 in
-    let state = state_over_lem a.n a.ends.now a.end_rounds.now a.values.now inv.1 (i + 1) (omega arith) (omega arith) in
-    let place : i + 1 - 1 ≡ i = omega arith in
-    let sent = line_by (take a.n a.data_by.now) (take a.n a.commits_by.now) in
-    let more =
-    with_more sent (length-line _ _) states a.out.now i c.loop-i.out _ _ (omega arith) (omega arith) inv.3
-    (line_of a.n i a.data_by.now a.commits_by.now _ _ _ (omega arith) c.process_bytes-line.ensures (rw place at state)) c.put_line.ensures in
-    (omega arith, inv.1, ap length more ∙ length-with sent (length-line _ _) states a.out.now (i + 1) (omega arith) (omega arith), more)
+    (omega arith, with_none (take a.run.now.n a.sent.now.data_by) (take a.run.now.n a.sent.now.commits_by) (states_in a.run.now) a.out.now)
+
+-- The part of process p comes back with its line.
+written : (c : After-put_line) →
+    let run = c.args.run.now in
+    let sent = c.args.sent.now in
+    put_mid (21 * c.from-i.result) (length c.loop-p.out - 21 * c.from-i.result) c.loop-p.out c.put_line.new.out
+    ≡ with_lines (take run.n sent.data_by) (take run.n sent.commits_by) (states_in run) c.args.out.now c.loop-p.p
+written c =
+    let run = c.args.run.now in
+    let sent = c.args.sent.now in
+    let p = c.loop-p.p in
+    let size : length (states_in run) ≡ run.n = length_states_over run.n run.ends run.end_rounds run.values (omega arith) in
+    let state = state_at_place run.n run.ends run.end_rounds run.values (omega arith) p (omega arith) (omega arith) ∙ sym c.state.ensures in
+    with_more _ _ _ c.args.out.now p c.from-i.result c.loop-p.out _ _ (omega arith) (omega arith) (omega arith) c.from-i.ensures c.loop-p.invariant.1
+    (line_of run.n p c.from-i.result sent.data_by sent.commits_by _ _ _ c.from-i.ensures (omega arith) c.process_bytes-line.ensures state)
+    c.put_line.ensures
+
+pub loop-p-preserved : goal.loop-p-preserved
+loop-p-preserved c =
+    let place : c.loop-p.p + 1 - 1 ≡ c.loop-p.p = omega arith in
+    (omega arith, rw place (written (goal.at.loop-p-preserved c).After-put_line))
 
 pub returns : goal.returns
-unfolding process_lines
 returns c =
-    let inv = c.loop-i.invariant in
-    let last : c.loop-i.i ≡ c.args.n = omega arith in
-    inv.3 ∙ rw last (with_all _ (length-line _ _) _ _ c.args.n (length_states_over c.args.n _ _ _ inv.1))
+    let run = c.args.run.now in
+    let passed : c.loop-p.p - 1 ≡ run.n = omega arith in
+    c.loop-p.invariant.1 ∙ rw passed (with_all _ _ _ _ run.n (length_states_over run.n run.ends run.end_rounds run.values (omega arith)))
+
+pub returns-2 : goal.returns-2
+returns-2 c =
+    let run = c.args.run.now in
+    let last : c.loop-p.p ≡ run.n = omega arith in
+    written (goal.at.returns-2 c).After-put_line
+    ∙ rw last (with_all _ _ _ _ run.n (length_states_over run.n run.ends run.end_rounds run.values (omega arith)))

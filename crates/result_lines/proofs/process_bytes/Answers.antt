@@ -1,12 +1,14 @@
--- `result_lines::process_bytes` meets its contract. Assumes nothing.
-use Rattle.result_lines.proofs.ProcessLine.{line_undecided, line_decided, line_crashed}
+-- `result_lines::process_bytes` meets its contract, by the state. Assumes nothing.
+use Rattle.general.proofs.BigEndianStd.{bytes_std}
+use Rattle.answers.specs.ResultLine.{end_bytes}
+use Rattle.result_lines.proofs.process_bytes.Goals.{in-Undecided, in-Decided, in-Crashed}
 use Rattle.result_lines.proofs.process_bytes.Goals as goal
 
-pub returns-then-end-eq-UNDECIDED : goal.returns-then-end-eq-UNDECIDED
-returns-then-end-eq-UNDECIDED c = line_undecided _ _ _ _ _ _ c.value_line.ensures c.if-end-eq-UNDECIDED.true
-
-pub returns-then-end-eq-DECIDED : goal.returns-then-end-eq-DECIDED
-returns-then-end-eq-DECIDED c = line_decided _ _ _ _ _ _ c.value_line-then-end-eq-DECIDED.ensures c.if-end-eq-DECIDED.true
-
 pub returns : goal.returns
-returns c = line_crashed _ _ _ _ _ _ c.value_line-2.ensures c.if-end-eq-UNDECIDED.false c.if-end-eq-DECIDED.false
+unfolding end_bytes
+returns c =
+    elim c.match-state.branch [
+      | in-Undecided w ↦ rw (w.in-Undecided.is, ← bytes_std 4 w.in-Undecided.value, c.to_be_bytes.ensures, w.end-is)
+      | in-Decided w ↦ rw (w.in-Decided.is, ← bytes_std 4 w.in-Decided.value, c.to_be_bytes.ensures, w.end-is)
+      | in-Crashed w ↦ rw (w.in-Crashed.is, ← bytes_std 4 0, c.to_be_bytes.ensures, w.end-is)
+    ]

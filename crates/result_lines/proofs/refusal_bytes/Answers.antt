@@ -1,6 +1,6 @@
 -- `result_lines::refusal_bytes` meets its contract. Assumes nothing.
-use Rattle.general.proofs.BigEndian.{bytes_two}
+use Rattle.general.proofs.BigEndianStd.{bytes_std}
 use Rattle.result_lines.proofs.refusal_bytes.Goals as goal
 
 pub returns : goal.returns
-returns c = simp bytes_two
+returns c = rw (← bytes_std 2 c.args.line, c.to_be_bytes.ensures)

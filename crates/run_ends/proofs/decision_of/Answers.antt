@@ -1,21 +1,15 @@
 -- `decision_of` meets its contract: the ticket is refused, or its instance is run. Assumes nothing.
-use Rattle.std.proofs.Common.{◌∙◌}
+use Rattle.std.proofs.Common.{◌∙◌, ap}
 use Rattle.general.specs.Answer.{accepted}
-use Rattle.ticket_laws.proofs.WellFormed.{accepted_well_formed}
-use Rattle.ticket.proofs.ReadAs.{read_accepted, then_accepted, then_refused}
-use Rattle.run_ends.specs.code.Decision.{decided_in, deciding, decision_by}
+use Rattle.refusals.specs.Answered.{answer_of}
+use Rattle.ticket.proofs.ReadAs.{then_accepted, then_refused}
+use Rattle.run_ends.specs.code.Decision.{decided_in, deciding}
 use Rattle.run_ends.proofs.decision_of.Goals as goal
 
-pub decision_in-requires : goal.decision_in-requires
-decision_in-requires c = accepted_well_formed _ _ (read_accepted _ _ _ _ _ _ _ c.read_into-read.ensures c.in-Accepted.is)
-
-pub returns-in-Accepted : goal.returns-in-Accepted
+pub returns-in_err-instance : goal.returns-in_err-instance
 unfolding deciding
-returns-in-Accepted c =
-    c.decision_in.ensures
-    ∙ then_accepted _ _ _ _ _ _ _ c.read_into-read.ensures (λ x. accepted (decided_in _ x)) c.in-Accepted.is
+returns-in_err-instance c = then_refused _ (λ x. accepted (decided_in _ x)) (λ d. d) _ c.in_err-instance.ensures _ c.from_residual.ensures.1
 
-pub returns-in-Refused : goal.returns-in-Refused
-unfolding deciding decision_by
-returns-in-Refused c =
-    then_refused _ _ _ _ _ _ _ c.read_into-read.ensures (λ x. accepted (decided_in _ x)) c.in-Refused.is
+pub returns : goal.returns
+unfolding deciding answer_of
+returns c = ap accepted c.decision_in.ensures ∙ then_accepted _ (λ x. accepted (decided_in _ x)) c.in_ok-instance.instance c.in_ok-instance.ensures

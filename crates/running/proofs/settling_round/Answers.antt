@@ -3,4 +3,4 @@ use Rattle.running.proofs.Answers.{settled_in}
 use Rattle.running.proofs.settling_round.Goals as goal
 
 pub returns : goal.returns
-returns c = settled_in _ c.run_all-run.result _ _ c.requires c.run_all-run.ensures
+returns c = settled_in _ c.run_all-run.result _ c.args.instance.well_formed c.run_all-run.ensures

@@ -2,9 +2,10 @@
 -- for an end are those of 'The result').
 use Rattle.std.specs.Prelude.{List, ℕ, ◌-◌, cond, eqb, get_or, take}
 use Rattle.general.specs.Indexed.{map_from}
-use Rattle.consensus.specs.State.{State, undecided, decided, crashed}
+use Rattle.consensus.specs.declared.State.{State}
+use Rattle.consensus.specs.declared.State.TheVariants.{Undecided as undecided, Decided as decided, Crashed as crashed}
 use Rattle.coordinator.specs.Run.{Run}
-use Rattle.tables.specs.declared.RunTable.{RunTable}
+use Rattle.tables.specs.declared.run.RunTable.{RunTable}
 
 -- The state that an end (00 undecided, 01 decided, 02 crashed), the round of it and a value stand for.
 unfoldable pub state_by_end : (end round value : ℕ) → State
@@ -18,9 +19,9 @@ state_over end_rounds values p end = state_by_end end (get_or end_rounds (p - 1)
 unfoldable pub states_over : ℕ → (ends end_rounds values : List ℕ) → List State
 states_over n ends end_rounds values = map_from (state_over end_rounds values) 1 (take n ends)
 
--- The same in a table.
-abbrev pub states_in : ℕ → RunTable → List State
-states_in n run = states_over n run.ends run.end_rounds run.values
+-- The states of a table's processes.
+abbrev pub states_in : RunTable → List State
+states_in run = states_over run.n run.ends run.end_rounds run.values
 
 -- The run of n processes, by its arrays and its counts.
 unfoldable pub run_over : ℕ → (ends end_rounds values : List ℕ) → (rounds speakers data_sent commits_sent : ℕ) → Run
@@ -34,5 +35,5 @@ run_over n ends end_rounds values rounds speakers data_sent commits_sent =
     }
 
 -- The same in a table.
-abbrev pub run_from : ℕ → RunTable → Run
-run_from n run = run_over n run.ends run.end_rounds run.values run.rounds run.speakers run.data_sent run.commits_sent
+abbrev pub run_from : RunTable → Run
+run_from run = run_over run.n run.ends run.end_rounds run.values run.rounds run.speakers run.data_sent run.commits_sent

@@ -1,83 +1,51 @@
 -- `read_rest` meets its contract: what each line that is read makes of what is left. Assumes nothing.
-use Rattle.std.proofs.Common.{sym, ◌∙◌, arith}
-use Rattle.reader.proofs.Advanced.{advance_read, advance_line}
-use Rattle.ticket.proofs.Reached.{reached_start, reached_end, reached_no_line, same_place, few_lines}
-use Rattle.ticket.proofs.Reached.{proposal_place, crash_place, reached_refused, reached_proposal, reached_crash, reached_ended}
+use Rattle.std.proofs.Common.{List, ℕ, length, Bor, ap, ◌∙◌, arith, Ok}
+use Rattle.refusals.specs.Answered.{answer_of}
+use Rattle.reader.proofs.NextLine.{next_text, next_line_at}
+use Rattle.ticket.proofs.Reached.{reached_start, same_place, proposal_place, crash_fits, reached_refused, reached_proposal, reached_crash, reached_ended}
 use Rattle.ticket.proofs.read_rest.Goals as goal
-use Rattle.ticket.proofs.read_rest.Goals.{in-Proposal, in-Crash, in-End}
+use Rattle.ticket.proofs.read_rest.Goals.{in-Ok-Proposal, in-Ok-Crash, in-Ok-End}
 
-pub loop-here-init : goal.loop-here-init
-loop-here-init c = reached_start _ _ c.requires.1 c.requires.2 _ c.requires.3
+pub loop-reader-init : goal.loop-reader-init
+loop-reader-init c = reached_start _ _ _ c.requires.0 c.requires.1 _ (grind arith)
 
-pub returns-then-text-here : goal.returns-then-text-here
-returns-then-text-here c = reached_end _ _ _ _ _ _ c.loop-here.invariant (omega arith) _ c.at_end.ensures
+-- The place of a proposal, and that of a crash.
+pub bounds-table-count : goal.bounds-table-count
+bounds-table-count c =
+    let line = next_line_at _ _ _ c.next_line.ensures.line c.next_line.ensures.behind c.in-Some.is in
+    proposal_place _ _ _ _ _ _ _ c.loop-reader.invariant _ _ line _ c.accept_line.ensures (c.in-Ok-Proposal.is ∙ ap Ok c.in-Ok-Proposal.field-0-is)
 
-pub returns-in_default : goal.returns-in_default
-returns-in_default c =
-    reached_no_line _ _ _ _ _ _ c.loop-here.invariant (omega arith) (sym c.in_default.is ∙ advance_read _ _ _ c.read_line-ahead.ensures)
+pub overflow_sub-l : goal.overflow_sub-l
+overflow_sub-l c =
+    let line = next_line_at _ _ _ c.next_line.ensures.line c.next_line.ensures.behind c.in-Some.is in
+    (crash_fits _ _ _ _ _ _ _ c.loop-reader.invariant _ _ line _ c.accept_line.ensures (c.in-Ok-Crash.is ∙ ap Ok c.in-Ok-Crash.field-0-is)).first
 
--- The place of a proposal.
-pub bounds-values-count : goal.bounds-values-count
-bounds-values-count c =
-    let line = advance_line _ _ _ c.read_line-ahead.ensures _ _ _ _ c.in-Line.is in
-    proposal_place _ _ _ _ _ _ c.loop-here.invariant _ _ _ _ line _ c.accept_line.ensures c.in-Proposal.is
+pub bounds-table-l : goal.bounds-table-l
+bounds-table-l c =
+    let line = next_line_at _ _ _ c.next_line.ensures.line c.next_line.ensures.behind c.in-Some.is in
+    let inside = crash_fits _ _ _ _ _ _ _ c.loop-reader.invariant _ _ line _ c.accept_line.ensures (c.in-Ok-Crash.is ∙ ap Ok c.in-Ok-Crash.field-0-is) in
+    omega (arith, inside.first, inside.last, c.loop-reader.invariant.few)
 
--- The place of a crash.
-pub overflow_sub-i : goal.overflow_sub-i
-overflow_sub-i c =
-    let line = advance_line _ _ _ c.read_line-ahead.ensures _ _ _ _ c.in-Line.is in
-    (crash_place _ _ _ _ _ _ c.loop-here.invariant _ _ _ _ line _ c.accept_line.ensures c.in-Crash.is).first
+pub returns-in-Err : goal.returns-in-Err
+unfolding answer_of
+returns-in-Err c =
+    let line = next_line_at _ _ _ c.next_line.ensures.line c.next_line.ensures.behind c.in-Some.is in
+    rw c.at_line-in-Err.ensures (reached_refused _ _ _ _ _ _ _ c.loop-reader.invariant _ _ line _ c.accept_line.ensures c.in-Err.is)
 
-pub bounds-crash_rounds-i : goal.bounds-crash_rounds-i
-bounds-crash_rounds-i c =
-    let line = advance_line _ _ _ c.read_line-ahead.ensures _ _ _ _ c.in-Line.is in
-    let inside = crash_place _ _ _ _ _ _ c.loop-here.invariant _ _ _ _ line _ c.accept_line.ensures c.in-Crash.is in
-    omega (arith, inside.first, inside.last, c.loop-here.invariant.few)
+pub loop-reader-smaller : goal.loop-reader-smaller
+loop-reader-smaller c =
+    let line = next_line_at _ _ _ c.next_line.ensures.line c.next_line.ensures.behind c.in-Some.is in
+    let text = next_text _ _ _ c.next_line.ensures.line c.next_line.ensures.behind in
+    omega (arith, ap (λ (r : Bor (List ℕ)). length r.now) text, line.after, line.inside)
 
-pub bounds-steps-i : goal.bounds-steps-i
-bounds-steps-i c =
-    let line = advance_line _ _ _ c.read_line-ahead.ensures _ _ _ _ c.in-Line.is in
-    let inside = crash_place _ _ _ _ _ _ c.loop-here.invariant _ _ _ _ line _ c.accept_line.ensures c.in-Crash.is in
-    omega (arith, inside.first, inside.last, c.loop-here.invariant.few)
-
-pub bounds-reached-i : goal.bounds-reached-i
-bounds-reached-i c =
-    let line = advance_line _ _ _ c.read_line-ahead.ensures _ _ _ _ c.in-Line.is in
-    let inside = crash_place _ _ _ _ _ _ c.loop-here.invariant _ _ _ _ line _ c.accept_line.ensures c.in-Crash.is in
-    omega (arith, inside.first, inside.last, c.loop-here.invariant.few)
-
-pub bounds-counts-i : goal.bounds-counts-i
-bounds-counts-i c =
-    let line = advance_line _ _ _ c.read_line-ahead.ensures _ _ _ _ c.in-Line.is in
-    let inside = crash_place _ _ _ _ _ _ c.loop-here.invariant _ _ _ _ line _ c.accept_line.ensures c.in-Crash.is in
-    omega (arith, inside.first, inside.last, c.loop-here.invariant.few)
-
-pub returns-in-Refused : goal.returns-in-Refused
-returns-in-Refused c =
-    let line = advance_line _ _ _ c.read_line-ahead.ensures _ _ _ _ c.in-Line.is in
-    reached_refused _ _ _ _ _ _ c.loop-here.invariant _ _ _ _ line _ c.accept_line.ensures c.in-Refused.is
-
-pub overflow_add-k : goal.overflow_add-k
-overflow_add-k c = omega (arith, few_lines _ _ _ c.loop-here.invariant.places c.loop-here.invariant.counted)
-
-pub loop-here-smaller : goal.loop-here-smaller
-loop-here-smaller c =
-    let line = advance_line _ _ _ c.read_line-ahead.ensures _ _ _ _ c.in-Line.is in
-    omega (arith, line.inside)
-
-pub loop-here-preserved : goal.loop-here-preserved
-loop-here-preserved c =
-    let line = advance_line _ _ _ c.read_line-ahead.ensures _ _ _ _ c.in-Line.is in
-    let here = c.loop-here.invariant in
-    let said = c.accept_line.ensures in
-    elim c.match-accept_line.branch [
-      | in-Proposal w ↦
-          same_place w.values-is w.crash_rounds-is w.steps-is w.reached-is w.counts-is w.place-is
-          (reached_proposal _ _ _ _ _ _ here _ _ _ _ line _ said w.in-Proposal.is)
-      | in-Crash w ↦
-          same_place w.values-is w.crash_rounds-is w.steps-is w.reached-is w.counts-is w.place-is
-          (reached_crash _ _ _ _ _ _ here _ _ _ _ line _ said w.in-Crash.is)
-      | in-End w ↦
-          same_place w.values-is w.crash_rounds-is w.steps-is w.reached-is w.counts-is w.place-is
-          (reached_ended _ _ _ _ _ _ here _ _ _ _ line _ said w.in-End.is)
+pub loop-reader-preserved : goal.loop-reader-preserved
+loop-reader-preserved c =
+    let line = next_line_at _ _ _ c.next_line.ensures.line c.next_line.ensures.behind c.in-Some.is in
+    let text = ap (λ (r : Bor (List ℕ)). r.now) (next_text _ _ _ c.next_line.ensures.line c.next_line.ensures.behind) in
+    let here = c.loop-reader.invariant in
+    elim c.match-accept_line-2.branch [
+      | in-Ok-Proposal w ↦ same_place text w.table-is w.place-is (reached_proposal _ _ _ _ _ _ _ here _ _ line _ c.accept_line.ensures (cc))
+      | in-Ok-Crash w ↦
+          same_place text (rw w.fault.ensures at w.table-is) w.place-is (reached_crash _ _ _ _ _ _ _ here _ _ line _ c.accept_line.ensures (cc))
+      | in-Ok-End w ↦ same_place text w.table-is w.place-is (reached_ended _ _ _ _ _ _ _ here _ _ line _ c.accept_line.ensures (cc))
     ]
