@@ -83,7 +83,7 @@ pub extern "C" fn uc_reasons(ticket: &[u8], reasons: &mut [u8]) -> u64
 {
     match reasons::all_reasons(ticket, reasons) {
         Ok(count) => count as u64,
-        Err(refused) => own_code(refused),
+        Err(unexplained) => own_code(unexplained),
     }
 }
 

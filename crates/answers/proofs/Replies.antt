@@ -18,7 +18,7 @@ use Rattle.answers.specs.Running.{result_in, running, buffer_after}
 use Rattle.refusals.specs.Number.{number_of}
 use Rattle.refusals.specs.Answered.{answer_of}
 use Rattle.refusals.specs.declared.Refused.{Refused as RefusedLine}
-use Rattle.answers.specs.Reply.{answer_by, reply_of, size_of, Writing, Ran}
+use Rattle.answers.specs.Reply.{answer_by, reply_of, reply_by, size_of, Writing, Ran}
 use Rattle.answers.proofs.ResultLength.{length-text}
 use Rattle.answers.specs.Reply.{Reply}
 use Rattle.answers.specs.Reply.{Given, Refused}
@@ -41,6 +41,11 @@ pub replied : (result : Result ℕ RefusedLine) → answer_by (reply_of result) 
 unfolding answer_by reply_of answer_of
 replied (Ok k) = refl
 replied (Err e) = refl
+
+pub replied_by : {A : Type 0} (number : A → ℕ) (result : Result A RefusedLine) → answer_by (reply_by number result) ≡ answer_of number result
+unfolding answer_by reply_by answer_of
+replied_by number (Ok a) = refl
+replied_by number (Err e) = refl
 
 module _ (answer : ℕ → Answer (List ℕ)) (before : List ℕ) where
   pub writing_refused : (number line : ℕ) → answer (length before) ≡ refused number line → Writing answer before before (Refused number line)

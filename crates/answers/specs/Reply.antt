@@ -16,6 +16,11 @@ unfoldable pub reply_of : Result ℕ RefusedLine → Reply
 reply_of (Ok k) = Given k
 reply_of (Err e) = Refused (number_of e.refusal) e.line
 
+-- The reply that a result of the code is whose value stands for a number.
+unfoldable pub reply_by : {A : Type 0} → (number : A → ℕ) → Result A RefusedLine → Reply
+reply_by number (Ok a) = Given (number a)
+reply_by number (Err e) = Refused (number_of e.refusal) e.line
+
 -- A number, or a refusal with its line.
 unfoldable pub answer_by : Reply → Answer ℕ
 answer_by (Given k) = accepted k

@@ -1,6 +1,13 @@
 // The problem, whatever protocol solves it: definitions and laws (specs/, proofs/), and the types that the definitions and the code share.
 #![tactic(auto)]
 
+// The steps of a failure line (document 01, 'The ticket': 00, 01 and 02), as `point_from` reads them.
+pub const BEFORE_SENDING: u8 = 0;
+
+pub const DURING_DATA: u8 = 1;
+
+pub const DURING_COMMITS: u8 = 2;
+
 // How far a process gets with sending in the round in which it crashes (document 01: the step of a failure line).
 #[derive(Clone, Copy, Debug, PartialEq, Eq)]
 pub enum CrashPoint {

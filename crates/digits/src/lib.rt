@@ -24,10 +24,25 @@ static DIGIT_VALUES: [u8; 256] = *b"\
     @@@@@@@@@@@@@@@@\
     @@@@@@@@@@@@@@@@";
 
-// What the table has for a byte: its value as a digit, 0 to 15, or the mark.
+// The table, whole.
+pub fn digit_table() -> [u8; 256]
+    ensures { result ≡ digit_table }
+{
+    DIGIT_VALUES
+}
+
+// What a table has for a byte. By the table of digits that is its value, 0 to 15, or the mark.
 #[inline(always)]
-pub fn digit_value(c: u8) -> u8
+pub fn digit_value(values: &[u8; 256], c: u8) -> u8
+    ensures { result ≡ get_or values.now c 0 }
+{
+    values[usize::from(c)]
+}
+
+// What the table of digits has for a byte. The table is looked up where it stands: it is neither made anew nor lent.
+#[inline(always)]
+pub fn value_by_table(c: u8) -> u8
     ensures { result ≡ get_or digit_table c 0 }
 {
-    DIGIT_VALUES[usize::from(c)]
+    digit_value(&DIGIT_VALUES, c)
 }

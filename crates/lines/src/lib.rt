@@ -5,7 +5,7 @@ ghost use Rattle.std.specs.Prelude.{◌≡◌, ◌<◌, length};
 ghost use Rattle.lines.specs.code.Read.{read_at};
 ghost use Rattle.lines.specs.code.Scanned.{Scanned, Stops};
 
-use digits::digit_value;
+use digits::value_by_table;
 
 // The mark of a byte that is no digit, @ or 64: more than the values of two digits add up to.
 const NO_DIGIT: u8 = b'@';
@@ -31,8 +31,8 @@ fn read_digits(text: &[u8], at: usize) -> Digits
     let mut tail: u64 = 0;
     // A `while`, since by a `for` over `as_chunks::<2>()`, proved too, reading a ticket takes 16 to 25 % more time.
     while end < text.len() - 1 {
-        let high = digit_value(text[end]);
-        let low = digit_value(text[end + 1]);
+        let high = value_by_table(text[end]);
+        let low = value_by_table(text[end + 1]);
         if NO_DIGIT <= high + low {
             break;
         }

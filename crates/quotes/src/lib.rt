@@ -13,7 +13,11 @@ use refusals::{Refusal, Refused};
 pub fn quote_by(decided: Option<u32>, costs: &[u64]) -> Result<u64, Refused>
     ensures { answer_by (reply_of result) ≡ of_lines costs.now (quoted_or16 (price_by costs.now decided)) }
 {
-    pricing_lines::check_lines(costs)?;
+    // A `match`: behind a `?` no must-fail edit could change a refusal alone.
+    match pricing_lines::check_lines(costs) {
+        Ok(()) => {}
+        Err(refusal) => return Err(refusal.at_line(0)),
+    }
     let value = decided.ok_or(Refusal::NoQuote)?;
     Ok(pricing_lines::price(value, costs))
 }
@@ -22,6 +26,9 @@ pub fn quote_by(decided: Option<u32>, costs: &[u64]) -> Result<u64, Refused>
 pub fn quote_of(text: &[u8], costs: &[u64], process: u64) -> Result<u64, Refused>
     ensures { answer_by (reply_of result) ≡ quoting text.now costs.now process }
 {
-    let decided = run_ends::decision_of(text, process)?;
-    quote_by(decided, costs)
+    // A `match`: behind a `?` no must-fail edit could change a refusal's line alone.
+    match run_ends::decision_of(text, process) {
+        Ok(decided) => quote_by(decided, costs),
+        Err(refused) => Err(refused),
+    }
 }

@@ -4,7 +4,7 @@
 
 ghost use Rattle.std.specs.Prelude.{◌≡◌, ◌&&◌, leb};
 ghost use Rattle.answers.specs.Reason.{reason};
-ghost use Rattle.answers.specs.Reply.{reply_of, Explained};
+ghost use Rattle.answers.specs.Reply.{answer_by, reply_of, reply_by, Explained};
 ghost use Rattle.refusals.specs.Answered.{answer_of};
 ghost use Rattle.coordinator_reason.specs.Number.{number_of_reason};
 
@@ -21,10 +21,15 @@ fn is_within(process: u64, n: u8, round: u64, rounds: u8) -> bool
 
 // Gives the reason of a process in a round of a ticket's run.
 pub fn reason_of(text: &[u8], process: u64, round: u64) -> Result<Reason, Refused>
-    ensures { answer_of number_of_reason result ≡ reason text.now process round }
+    ensures value { answer_of number_of_reason result ≡ reason text.now process round }
+    ensures reply { answer_by (reply_by number_of_reason result) ≡ reason text.now process round }
 {
     let mut table = InstanceTable::empty();
-    let instance = ticket::read(text, &mut table)?;
+    // A `match`: behind a `?` no must-fail edit could change a refusal alone.
+    let instance = match ticket::read(text, &mut table) {
+        Ok(instance) => instance,
+        Err(refused) => return Err(refused),
+    };
     let run = run_ends::whole_run(instance);
     if !is_within(process, instance.table.n, round, run.rounds) {
         return Err(Refusal::NoSuchReason.at_line(0));
@@ -37,7 +42,11 @@ pub fn all_reasons(text: &[u8], out: &mut [u8]) -> Result<usize, Refused>
     ensures { Explained text.now out.old out.new (reply_of result) }
 {
     let mut table = InstanceTable::empty();
-    let read = ticket::read(text, &mut table)?;
+    // A `match`: behind a `?` no must-fail edit could change a refusal alone.
+    let read = match ticket::read(text, &mut table) {
+        Ok(instance) => instance,
+        Err(unread) => return Err(unread),
+    };
     let run = run_ends::whole_run(read);
     let size = usize::from(run.rounds) * usize::from(run.n);
     if out.len() < size {

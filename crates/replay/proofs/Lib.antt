@@ -1,1 +1,2 @@
 pub mod LeadsOn
+pub mod RanIn

@@ -1,1 +1,2 @@
+pub mod RanIn
 pub mod Untouched

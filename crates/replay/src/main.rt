@@ -4,6 +4,8 @@
 #![tactic(auto)]
 
 ghost use Rattle.std.specs.Prelude.{◌≡◌, ◌≤◌, length, IfOk};
+ghost use Rattle.answers.specs.Reply.{reply_of};
+ghost use Rattle.replay.specs.code.RanIn.{RanIn};
 ghost use Rattle.replay.specs.code.Untouched.{untouched};
 
 use lines::Cursor;
@@ -42,12 +44,20 @@ fn write_refusal(stdout: &mut Stdout, refused: Refused) -> io::Result<()> {
     stdout.write_all(&text)
 }
 
+// Runs a ticket with the first `room` bytes of a buffer as its output.
+fn run_in(ticket: &[u8], out: &mut [u8], room: usize) -> Result<usize, Refused>
+    requires { room ≤ length out.old }
+    ensures { RanIn ticket.now room out.old out.new (reply_of result) }
+{
+    running::run_ticket(ticket, &mut out[..room])
+}
+
 // Runs a ticket with an output of `wanted` bytes, or of as many as there is room for, and writes what it answers. The bytes past a result,
 // and all bytes after a refusal, must still be the filling.
 fn answer(stdout: &mut Stdout, ticket: &[u8], wanted: usize) -> io::Result<()> {
     let mut out = [FILLING; OUTPUT_ROOM];
     let room = wanted.min(OUTPUT_ROOM);
-    match running::run_ticket(ticket, &mut out[..room]) {
+    match run_in(ticket, &mut out, room) {
         Ok(size) => {
             let (written, rest) = out.split_at(size);
             stdout.write_all(written)?;
@@ -63,7 +73,7 @@ fn answer(stdout: &mut Stdout, ticket: &[u8], wanted: usize) -> io::Result<()> {
 
 // The byte that two digits stand for. (The mark of another character would count as 0; no line has one.)
 fn byte_of(high: u8, low: u8) -> u8 {
-    digits::digit_value(high) % 16 * 16 + digits::digit_value(low) % 16
+    digits::value_by_table(high) % 16 * 16 + digits::value_by_table(low) % 16
 }
 
 // The bytes of pairs of digits, to the front of a buffer. What they are is seen in what the program writes.

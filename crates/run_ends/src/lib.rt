@@ -38,6 +38,9 @@ pub fn decision_of(text: &[u8], process: u64) -> Result<Option<u32>, Refused>
     ensures { answer_of (λ decision. decision) result ≡ deciding text.now process }
 {
     let mut table = InstanceTable::empty();
-    let instance = ticket::read(text, &mut table)?;
-    Ok(decision_in(instance, process))
+    // A `match`: behind a `?` no must-fail edit could change a refusal alone.
+    match ticket::read(text, &mut table) {
+        Ok(instance) => Ok(decision_in(instance, process)),
+        Err(refused) => Err(refused),
+    }
 }

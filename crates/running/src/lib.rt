@@ -31,8 +31,11 @@ pub fn run_ticket(text: &[u8], out: &mut [u8]) -> Result<usize, Refused>
     ensures { Ran text.now out.old out.new (reply_of result) }
 {
     let mut table = InstanceTable::empty();
-    let instance = ticket::read(text, &mut table)?;
-    run_instance(instance, out)
+    // A `match`: behind a `?` no must-fail edit could change a refusal alone.
+    match ticket::read(text, &mut table) {
+        Ok(instance) => run_instance(instance, out),
+        Err(refused) => Err(refused),
+    }
 }
 
 // The settling round of an instance: the last round of its run as far as it is run.
@@ -49,6 +52,9 @@ pub fn settle(text: &[u8]) -> Result<u8, Refused>
     ensures { answer_by (reply_of result) ≡ settling text.now }
 {
     let mut table = InstanceTable::empty();
-    let read = ticket::read(text, &mut table)?;
-    Ok(settling_round(read))
+    // A `match`: behind a `?` no must-fail edit could change a refusal alone.
+    match ticket::read(text, &mut table) {
+        Ok(instance) => Ok(settling_round(instance)),
+        Err(unsettled) => Err(unsettled),
+    }
 }

@@ -49,6 +49,7 @@ pub fn initial_run(n: u8, values: [u32; 64]) -> RunTable
 
 impl RunTable {
     // The state of process p (document 01: up and undecided, decided, dark).
+    // Round and value are read in any case, so that a loop over states can be vectorized: the reasons took an eighth of the instructions.
     #[inline(always)]
     pub fn state(&self, p: u8) -> State
         requires { (1 ≤ p) × (p ≤ 64) }
@@ -57,10 +58,11 @@ impl RunTable {
             (get_or self.now.values (p - 1) 0) }
     {
         let i = (p - 1) as usize;
+        let (round, value) = (self.end_rounds[i], self.values[i]);
         match self.ends[i] {
-            UNDECIDED => State::Undecided(self.values[i]),
-            DECIDED => State::Decided(self.end_rounds[i], self.values[i]),
-            _ => State::Crashed(self.end_rounds[i]),
+            UNDECIDED => State::Undecided(value),
+            DECIDED => State::Decided(round, value),
+            _ => State::Crashed(round),
         }
     }
 }

@@ -76,7 +76,7 @@ fn read_rest(
 
 // Reads a ticket into a lent table that holds nothing yet. What the table holds after a refusal is not promised.
 #[tactic(auto, using(crate::proofs::ReadAs::too_long_lem, crate::proofs::ReadAs::short_read), unfolding(refusals::specs::Answered::answer_of, refusals::specs::Number::number_of))]
-fn read_into(text: &[u8], table: &mut InstanceTable) -> Result<(), Refused>
+pub fn read_into(text: &[u8], table: &mut InstanceTable) -> Result<(), Refused>
     requires { table.old ≡ empty_table 0 0 }
     ensures { answer_of (λ _. instance_of table.new) result ≡ read_ticket text.now }
 {

@@ -5,15 +5,8 @@ ghost use Rattle.std.specs.Prelude.{◌≡◌, ◌≤◌};
 ghost use Rattle.consensus.specs.Instance.{within_limits};
 ghost use Rattle.ticket_format.specs.FailureLine.{places_crash, all_between, suits_step, fault_by};
 
-use consensus::{CrashPoint, Fault};
+use consensus::{BEFORE_SENDING, CrashPoint, DURING_COMMITS, DURING_DATA, Fault};
 use ticket_format::FailureLine;
-
-// The steps of a failure line.
-const BEFORE_SENDING: u8 = 0;
-
-const DURING_DATA: u8 = 1;
-
-const DURING_COMMITS: u8 = 2;
 
 // What the header says: n, and t, the most processes that may crash.
 // That n is at most 64 stays a clause where it is asked: `within_limits` takes any n, and so does `accept_line` behind the 04.

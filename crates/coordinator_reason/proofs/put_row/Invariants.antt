@@ -1,9 +1,8 @@
--- Invariant: the reasons of the processes passed, followed by what stood there before.
-use Rattle.std.proofs.Common.{◌≡◌, ℕ, suc, ◌+◌, ◌-◌, ◌≤◌}
+-- Invariant: the reasons of the processes below p as of such that do not coordinate, followed by what stood there before.
+use Rattle.std.proofs.Common.{◌≡◌, ◌+◌, ◌-◌, ◌≤◌}
 use Rattle.general.proofs.Table.{overwritten}
-use Rattle.coordinator_reason.specs.code.ByEnds.{reason_in_table}
+use Rattle.coordinator_reason.proofs.Rows.{besides}
 use Rattle.coordinator_reason.proofs.put_row.Given as goal
 
 abbrev pub invariant-loop-p : goal.invariant-loop-p
-invariant-loop-p l =
-    (l.p ≤ l.run.n + 1) × (l.out ≡ overwritten (λ (k : ℕ). reason_in_table l.table l.run (suc k) l.r) l.initial.out (l.p - 1))
+invariant-loop-p l = (l.p ≤ l.run.n + 1) × (l.out ≡ overwritten (besides l.table l.run l.r) l.initial.out (l.p - 1))

@@ -1,6 +1,7 @@
 -- For the code alone: the reasons (document 02, Paper 7) by how the processes of a whole run end and by the faults of the coordinators. That they are
 -- `reason_of` of the instance is `reason_by_table` of reasons/proofs/OfRun.
 use Rattle.std.specs.Prelude.{List, [], ◌++◌, ℕ, zero, suc, ◌-◌, Bool, true, false, cond, ◌&&◌, eqb, ltb, get_or}
+use Rattle.general.specs.Bits.{member}
 use Rattle.general.specs.Table.{tabulate}
 use Rattle.consensus.specs.declared.Fault.{Fault}
 use Rattle.consensus.specs.declared.Fault.TheVariants.{Correct as correct, Crashes as crashes}
@@ -8,19 +9,22 @@ use Rattle.consensus.specs.declared.State.{State}
 use Rattle.consensus.specs.declared.State.TheVariants.{Undecided as undecided, Decided as decided, Crashed as crashed}
 use Rattle.coordinator.specs.Message.{gets_data}
 use Rattle.coordinator.specs.Delivery.{reach_at}
+use Rattle.coordinator_reason.specs.declared.Heard.{Heard}
+use Rattle.coordinator_reason.specs.declared.Heard.TheVariants.{Alike, ValueBy}
+use Rattle.coordinator_reason.specs.Number.{number_of_reason}
 use Rattle.tables.specs.declared.instance.InstanceTable.{InstanceTable}
 use Rattle.tables.specs.declared.run.RunTable.{RunTable}
 use Rattle.tables.specs.code.RunOfTable.{state_by_end}
 
 -- Whether the data message of a coordinator with this fault gets to process p in the round in which it crashes. How many processes there are does not
--- matter: they are taken as 0.
+-- matter: they are taken as 0. Of one that is correct, which leaves no process waiting, it is false.
 unfoldable pub data_reaches : (p : ℕ) → Fault → Bool
-data_reaches p correct = true
+data_reaches p correct = false
 data_reaches p (crashes round point) = gets_data (reach_at 0 point p)
 
--- Whether a process that ends so has ended before round r.
+-- Whether a process that ends so has ended before round r. No process ends a whole run undecided; one that did would have ended before round 1.
 unfoldable pub ended_before : (r : ℕ) → State → Bool
-ended_before r (undecided v) = false
+ended_before r (undecided v) = true
 ended_before r (decided round v) = ltb round r
 ended_before r (crashed round) = ltb round r
 
@@ -28,9 +32,14 @@ ended_before r (crashed round) = ltb round r
 unfoldable pub reason_waiting : (p r : ℕ) → (coordinator : State) → Fault → ℕ
 reason_waiting p r coordinator fault = cond (ended_before r coordinator) 4 (cond (data_reaches p fault) 3 5)
 
+-- The same by what those have heard that wait.
+unfoldable pub reason_heard : (p : ℕ) → Heard → ℕ
+reason_heard p (Alike reason) = number_of_reason reason
+reason_heard p (ValueBy set) = cond (member p set) 3 5
+
 -- The reason in round r of a process that does not coordinate it, by how it ends and by the reason that it has if it waits.
 unfoldable pub reason_beside : (r : ℕ) → State → (waiting : ℕ) → ℕ
-reason_beside r (undecided v) waiting = waiting
+reason_beside r (undecided v) waiting = 7
 reason_beside r (decided round v) waiting = cond (ltb round r) 7 (cond (ltb r round) waiting 2)
 reason_beside r (crashed round) waiting = cond (ltb round r) 7 (cond (ltb r round) waiting 6)
 

@@ -8,12 +8,12 @@ loop-end-init c = scanned_none _ _ (omega arith)
 
 pub overflow_add-high : goal.overflow_add-high
 overflow_add-high c =
-    let pair = pair_read _ _ _ _ c.type_inv.text c.digit_value-high.ensures c.digit_value-low.ensures in
+    let pair = pair_read _ _ _ _ c.type_inv.text c.value_by_table-high.ensures c.value_by_table-low.ensures in
     omega (arith, pair.first_most, pair.second_most)
 
 pub loop-end-preserved : goal.loop-end-preserved
 loop-end-preserved c =
-    let pair = pair_read _ _ _ _ c.type_inv.text c.digit_value-high.ensures c.digit_value-low.ensures in
+    let pair = pair_read _ _ _ _ c.type_inv.text c.value_by_table-high.ensures c.value_by_table-low.ensures in
     let few = pair.are_digits (omega arith) in
     let high = c.from.ensures ∙ pair.first in
     let low = c.from-in-loop-end.ensures ∙ pair.second in
@@ -22,7 +22,7 @@ loop-end-preserved c =
 
 pub returns-then-high-low-ge-NO_DIGIT : goal.returns-then-high-low-ge-NO_DIGIT
 returns-then-high-low-ge-NO_DIGIT c =
-    let pair = pair_read _ _ _ _ c.type_inv.text c.digit_value-high.ensures c.digit_value-low.ensures in
+    let pair = pair_read _ _ _ _ c.type_inv.text c.value_by_table-high.ensures c.value_by_table-low.ensures in
     (c.loop-end.invariant, stops_at_mark _ _ _ _ pair.first pair.second (omega arith))
 
 pub returns-after-loop-end : goal.returns-after-loop-end

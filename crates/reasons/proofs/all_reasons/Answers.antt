@@ -10,16 +10,16 @@ use Rattle.reasons.proofs.OfRun.{few, rounds_few}
 use Rattle.reasons.proofs.Answers.{all_short, all_given}
 use Rattle.reasons.proofs.all_reasons.Goals as goal
 
-pub returns-in_err-read : goal.returns-in_err-read
+pub returns-in-Err : goal.returns-in-Err
 unfolding reasons answer_of
-returns-in_err-read c =
-    let refused = then_refused _ (reasons_within _) (λ k. k) _ c.in_err-read.ensures (Err _) refl in
-    writing_err _ _ _ refused _ c.from_residual.ensures.1
+returns-in-Err c =
+    let refused = then_refused _ (reasons_within _) (λ k. k) _ (rw c.in-Err.is at c.read.ensures) (Err _) refl in
+    writing_err _ _ _ refused (Err _) refl
 
 pub returns-then-out-size : goal.returns-then-out-size
 unfolding reasons reply_of number_of
 returns-then-out-size c =
-    let read = then_accepted _ (reasons_within _) c.in_ok-read.read c.in_ok-read.ensures in
+    let read = then_accepted _ (reasons_within _) c.in-Ok.instance (rw c.in-Ok.is at c.read.ensures) in
     rw c.at_line.ensures
     (writing_refused _ _ _ _ (sym (all_short _ _ c.whole_run-run.ensures _ _ (ap₂ (λ (a b : ℕ). a * b) c.from.ensures c.from-2.ensures) c.if-out-size.true ∙ read)))
 
@@ -32,6 +32,6 @@ put_reasons-requires c =
 pub returns : goal.returns
 unfolding reasons reply_of
 returns c =
-    let read = then_accepted _ (reasons_within _) c.in_ok-read.read c.in_ok-read.ensures in
+    let read = then_accepted _ (reasons_within _) c.in-Ok.instance (rw c.in-Ok.is at c.read.ensures) in
     writing_same _ _ _ _ _ read
     (all_given _ _ c.whole_run-run.ensures _ _ (ap₂ (λ (a b : ℕ). a * b) c.from.ensures c.from-2.ensures) c.if-out-size.false _ c.put_reasons.ensures)

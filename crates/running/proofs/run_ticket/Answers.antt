@@ -6,13 +6,13 @@ use Rattle.answers.specs.Running.{result_in, running}
 use Rattle.answers.proofs.Replies.{writing_err, writing_same}
 use Rattle.running.proofs.run_ticket.Goals as goal
 
-pub returns-in_err-instance : goal.returns-in_err-instance
+pub returns-in-Ok : goal.returns-in-Ok
 unfolding running answer_of
-returns-in_err-instance c =
-    let refused = then_refused _ (result_in _) (λ k. k) _ c.in_err-instance.ensures (Err _) refl in
-    writing_err _ _ _ refused _ c.from_residual.ensures.1
+returns-in-Ok c =
+    writing_same _ _ _ _ _ (then_accepted _ (result_in _) c.in-Ok.instance (rw c.in-Ok.is at c.read.ensures)) c.run_instance.ensures
 
-pub returns : goal.returns
+pub returns-in-Err : goal.returns-in-Err
 unfolding running answer_of
-returns c =
-    writing_same _ _ _ _ _ (then_accepted _ (result_in _) c.in_ok-instance.instance c.in_ok-instance.ensures) c.run_instance.ensures
+returns-in-Err c =
+    let refused = then_refused _ (result_in _) (λ k. k) _ (rw c.in-Err.is at c.read.ensures) (Err _) refl in
+    writing_err _ _ _ refused (Err _) refl
